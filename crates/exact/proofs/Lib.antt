@@ -1,0 +1,6 @@
+pub mod Parts
+pub mod Signs
+pub mod Bounds
+pub mod Fours
+pub mod Sums
+pub mod Poly

@@ -1,0 +1,37 @@
+-- What the test of the coordinates tells: every vertex of a list that passes is a point of the grid. Assumes nothing.
+use Prim.Native.Nat.{ℕ, zero, suc, _≤_}
+use native.Mathlib.Omega.{arith}
+use mathlib.Core.Path.{_≡_, refl, sym, ap, _∙_}
+use mathlib.Core.Bool.{Bool, true, false, _||_}
+use mathlib.Core.List.{List, [], _∷_}
+use lib.IntN.{ℤ, pos, negsuc, natAbs}
+use lib.ListN.{length, getD}
+use borrow.Author.Tests.{ltb-false}
+use Rattle.ring.specs.declared.Point.{Point}
+use Rattle.ring.specs.Grid.{point, beyond, someBeyond, vertices}
+use Rattle.ring.specs.Rings.{at}
+use Rattle.ring.specs.Walk.{OnGrid}
+use Rattle.ring.proofs.Pick.{neither-left, neither-right}
+use Rattle.ring.proofs.Vertices.{origin}
+
+pub within-grid : (x : ℤ) → beyond x ≡ false → natAbs x ≤ 1_000_000_000
+within-grid (pos n) e = ltb-false 1_000_000_000 n e
+within-grid (negsuc n) e =
+    let h : n ≤ 999_999_999 = ltb-false 999_999_999 n (neither-left _ false e) in
+    omega arith
+
+pub point-on-grid : (x y : ℤ) → beyond x ≡ false → beyond y ≡ false → OnGrid (point x y)
+point-on-grid x y d e = record { across = within-grid x d; up = within-grid y e }
+
+vertices-on-grid : (xs : List ℤ) → someBeyond xs ≡ false → (i : ℕ) → OnGrid (getD (vertices xs) i origin)
+unfolding vertices
+vertices-on-grid [] e i = point-on-grid (pos 0) (pos 0) refl refl
+vertices-on-grid (x ∷ []) e i = point-on-grid (pos 0) (pos 0) refl refl
+vertices-on-grid (x ∷ y ∷ xs) e zero =
+    point-on-grid x y (neither-left (beyond x) _ e) (neither-left (beyond y) _ (neither-right (beyond x) _ e))
+vertices-on-grid (x ∷ y ∷ xs) e (suc i) =
+    vertices-on-grid xs (neither-right (beyond y) _ (neither-right (beyond x) _ e)) i
+
+pub vertex-on-grid : (xs : List ℤ) → someBeyond xs ≡ false → (i : ℕ) → OnGrid (at (vertices xs) i)
+unfolding at
+vertex-on-grid xs e i = vertices-on-grid xs e _

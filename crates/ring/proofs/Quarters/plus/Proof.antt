@@ -1,0 +1,19 @@
+-- `ring::Quarters::plus` adds within 32 bits. Assumes nothing.
+use mathlib.Core.Path.{_∙_}
+use lib.IntN.{_+ℤ_}
+use mir.Syntax.{w32}
+use mir.Val.{SFits}
+use mir.Facts.{toZ-ofZ}
+use borrow.Author.Needs.{needs}
+use Rattle.exact.proofs.Bounds.{signed}
+use Rattle.ring.proofs.Quarters.plus.Statement.{statement}
+use Rattle.ring.proofs.Quarters.plus.Tie as tie
+
+add-t3 : tie.Need-add-t3
+add-t3 c = search (needs, signed)
+
+returns : tie.Need-returns
+returns c = search (needs, signed)
+
+pub plus-spec : {M : Type 1} → statement M
+plus-spec = tie.close (tie.spec add-t3 returns)

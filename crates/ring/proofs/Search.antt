@@ -1,0 +1,66 @@
+-- The lowest index that passes a test: the steps a loop takes, and what an answer says. Assumes nothing.
+use Prim.Native.Nat.{ℕ, zero, suc, _+_, _≤_, _<_}
+use native.Mathlib.Omega.{arith}
+use native.Mathlib.Decide.{ℕ-discrete}
+use mathlib.Core.Path.{_≡_, refl, sym, ap, _∙_, subst}
+use mathlib.Core.Bool.{Bool, true, false, true≢false}
+use Rattle.ring.specs.Grid.{pick}
+use Rattle.ring.specs.Locate.{lowest}
+use Rattle.ring.proofs.Pick.{pick-true, pick-false}
+
+-- ---- the steps: nothing left, a hit, a miss
+
+pub lowest-end : (p : ℕ → Bool) (i : ℕ) → lowest p zero i ≡ i
+unfolding lowest
+lowest-end p i = refl
+
+pub lowest-hit : (p : ℕ → Bool) (k i : ℕ) → p i ≡ true → lowest p (suc k) i ≡ i
+unfolding lowest
+lowest-hit p k i e = pick-true e i (lowest p k (suc i))
+
+pub lowest-miss : (p : ℕ → Bool) (k i : ℕ) → p i ≡ false → lowest p (suc k) i ≡ lowest p k (suc i)
+unfolding lowest
+lowest-miss p k i e = pick-false e i (lowest p k (suc i))
+
+-- ---- what an answer says
+
+-- m is the lowest from i on, with k to look at, that passes; or none does, and m is the first that is not looked at
+pub record Lowest (p : ℕ → Bool) (k i m : ℕ) : Type 0 where
+  pub least : i ≤ m
+  pub most : m ≤ i + k
+  pub before : (j : ℕ) → i ≤ j → j < m → p j ≡ false
+  pub passes : m < i + k → p m ≡ true
+
+pub lowest-holds : (p : ℕ → Bool) (k i : ℕ) → Lowest p k i (lowest p k i)
+unfolding lowest
+lowest-holds p zero i = record { least = omega arith; most = omega arith; before = λ j g h. absurd (omega arith); passes = λ h. absurd (omega arith) }
+lowest-holds p (suc k) i = step (p i) refl (lowest-holds p k (suc i))
+  where
+    step : (b : Bool) → p i ≡ b → Lowest p k (suc i) (lowest p k (suc i)) → Lowest p (suc k) i (pick b i (lowest p k (suc i)))
+    step true e l = record { least = omega arith; most = omega arith; before = λ j g h. absurd (omega arith); passes = λ h. e }
+    step false e l = record { least = omega arith; most = omega arith; before = earlier; passes = λ h. l .passes (omega arith) }
+      where
+        earlier : (j : ℕ) → i ≤ j → j < lowest p k (suc i) → p j ≡ false
+        earlier j g h = elim (ℕ-discrete i j) [ yes same ↦ subst (λ (n : ℕ). p n ≡ false) same e | no other ↦ l .before j (omega arith) h ]
+
+-- there is only one such m
+pub lowest-unique : (p : ℕ → Bool) (k i m n : ℕ) → Lowest p k i m → Lowest p k i n → m ≡ n
+lowest-unique p k i m n a b = let f : ¬ (m < n) = first m n a b in let g : ¬ (n < m) = first n m b a in omega arith
+  where
+    first : (m n : ℕ) → Lowest p k i m → Lowest p k i n → ¬ (m < n)
+    first m n a b h = true≢false (sym (a .passes (omega arith)) ∙ b .before m (a .least) h)
+
+pub lowest-none : (p : ℕ → Bool) (k i : ℕ) → ((j : ℕ) → i ≤ j → j < i + k → p j ≡ false) → lowest p k i ≡ i + k
+lowest-none p k i f = lowest-unique p k i (lowest p k i) (i + k) (lowest-holds p k i) (record { least = omega arith; most = omega arith; before = f; passes = λ h. absurd (omega arith) })
+
+pub lowest-first : (p : ℕ → Bool) (n m : ℕ) → ((j : ℕ) → j < m → p j ≡ false) → m < n → p m ≡ true → lowest p n 0 ≡ m
+lowest-first p n m f h e = lowest-unique p n 0 (lowest p n 0) m (lowest-holds p n 0) (record { least = omega arith; most = omega arith; before = λ j g. f j; passes = λ g. e })
+
+pub lowest-most : (p : ℕ → Bool) (k i : ℕ) → lowest p k i ≤ i + k
+lowest-most p k i = lowest-holds p k i .most
+
+pub lowest-is : (p : ℕ → Bool) (k i m : ℕ) → lowest p k i ≡ m → m < i + k → (p m ≡ true) × ((j : ℕ) → i ≤ j → j < m → p j ≡ false)
+lowest-is p k i m e h = let l : Lowest p k i m = subst (Lowest p k i) e (lowest-holds p k i) in (l .passes h, l .before)
+
+pub lowest-all : (p : ℕ → Bool) (k i : ℕ) → lowest p k i ≡ i + k → (j : ℕ) → i ≤ j → j < i + k → p j ≡ false
+lowest-all p k i e = let l : Lowest p k i (i + k) = subst (Lowest p k i) e (lowest-holds p k i) in l .before

@@ -1,0 +1,87 @@
+-- `ring::locate` refuses in document 01's order and otherwise answers what the walk round the ring finds. Assumes nothing.
+use Prim.Native.Nat.{ℕ, _+_, _/_, _%_, _≤_}
+use native.Mathlib.Omega.{arith}
+use mathlib.Core.Path.{_≡_, sym, ap, subst, _∙_}
+use mathlib.Core.Bool.{Bool, true, false, _||_}
+use lib.Dec.{eqb, ltb}
+use lib.ListN.{length}
+use mir.Syntax.{w32}
+use mir.Val.{SFits}
+use mir.Facts.{toZ-ofZ}
+use borrow.Author.Needs.{needs}
+use borrow.Author.Tests.{eqb-false, ltb-false}
+use Rattle.ring.specs.Grid.{point, vertices, beyond, someBeyond}
+use Rattle.ring.specs.Locate.{located, locatedOn}
+use Rattle.ring.specs.Walk.{Ready}
+use Rattle.ring.proofs.Pick.{pick-true, pick-false, neither-left, neither-right}
+use Rattle.ring.proofs.OnGrid.{point-on-grid}
+use Rattle.ring.proofs.locate.Statement.{statement}
+use Rattle.ring.proofs.locate.Tie as tie
+
+returns : tie.Need-returns
+unfolding located
+returns c = sym (pick-true (c .if1 .taken) _ _)
+
+some-beyond-requires : tie.Need-some-beyond-requires
+some-beyond-requires c κs = search needs
+
+beyond-requires : tie.Need-beyond-requires
+beyond-requires c κs = search needs
+
+beyond-requires-2 : tie.Need-beyond-requires-2
+beyond-requires-2 c κs = search needs
+
+-- the second test is document 01's
+tested : (c : tie.After-beyond2) → (someBeyond (c .before .before .before .before .args .ring .now) || (beyond (c .before .before .before .before .args .x) || beyond (c .before .before .before .before .args .y))) ≡ (c .before .before .some-beyond .result || (c .before .beyond .result || c .beyond2 .result))
+tested c =
+    let start = c .before .before .before .before in
+    let x = c .before .beyond .ensures ∙ ap beyond (toZ-ofZ (start .fits .x)) in
+    let y = c .beyond2 .ensures ∙ ap beyond (toZ-ofZ (start .fits .y)) in
+    sym (λ i. c .before .before .some-beyond .ensures i || (x i || y i))
+
+returns-2 : tie.Need-returns-2
+unfolding located
+returns-2 c =
+    let second = c .before in
+    sym (pick-false (second .before .before .before .if1 .left) _ _ ∙ pick-true (tested second ∙ c .if2 .taken) _ _)
+
+round-requires : tie.Need-round-requires
+round-requires c κs =
+    let start = c .before .before .before .before .before in
+    let xs = start .args .ring .now in
+    let m = length xs in
+    let a = c .before .before .before .before .if1 .left in
+    let b = tested (c .before) ∙ c .if2 .left in
+    let p = neither-right (someBeyond xs) _ b in
+    let odd = eqb-false (m % 2) 1 (neither-left (eqb (m % 2) 1) _ a) in
+    let sized = neither-right (eqb (m % 2) 1) _ a in
+    let few = ltb-false (m / 2) 3 (neither-left (ltb (m / 2) 3) _ sized) in
+    let many = ltb-false 2048 (m / 2) (neither-right (ltb (m / 2) 3) _ sized) in
+    simp (toZ-ofZ (start .fits .x), toZ-ofZ (start .fits .y)) (record {
+      even = omega arith;
+      least = few;
+      most = many;
+      grid = neither-left (someBeyond xs) _ b;
+      point = point-on-grid (start .args .x) (start .args .y) (neither-left (beyond (start .args .x)) _ p) (neither-right (beyond (start .args .x)) _ p);
+    })
+
+returns-3 : tie.Need-returns-3
+unfolding located
+returns-3 c =
+    let second = c .before .before in
+    let start = second .before .before .before .before in
+    c .round .ensures
+    ∙ (λ i. locatedOn (vertices (start .args .ring .now)) (point (toZ-ofZ (start .fits .x) i) (toZ-ofZ (start .fits .y) i)))
+    ∙ sym (pick-false (second .before .before .before .if1 .left) _ _ ∙ pick-false (tested second ∙ c .before .if2 .left) _ _)
+
+pub locate-spec : {M : Type 1} → statement M
+locate-spec =
+    tie.close
+    (tie.spec
+    returns
+    some-beyond-requires
+    beyond-requires
+    beyond-requires-2
+    returns-2
+    round-requires
+    returns-3)

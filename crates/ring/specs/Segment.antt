@@ -1,0 +1,19 @@
+-- Document 01: a vertex that equals R, and R on the closed segment of an edge. Assumes nothing.
+use mathlib.Core.Bool.{Bool, _&&_, _||_}
+use lib.IntN.{ℤ, pos}
+use lib.Signed.{leZ}
+use Rattle.exact.specs.Sign.{eqZ}
+use Rattle.ring.specs.declared.Point.{Point}
+use Rattle.ring.specs.Turns.{determinant}
+
+-- P and R are the same point
+unfoldable pub same : Point → Point → Bool
+same R P = eqZ (R .x) (P .x) && eqZ (R .y) (P .y)
+
+-- a lies between p and q, whichever of the two is the larger, or is one of them
+abbrev pub between : ℤ → ℤ → ℤ → Bool
+between a p q = (leZ p a && leZ a q) || (leZ q a && leZ a p)
+
+-- R is a point of the closed segment from P to Q: in line with both, and between them in x and in y. A segment of no length holds only its own point
+unfoldable pub onSegment : Point → Point → Point → Bool
+onSegment R P Q = eqZ (determinant R P Q) (pos 0) && (between (R .x) (P .x) (Q .x) && between (R .y) (P .y) (Q .y))

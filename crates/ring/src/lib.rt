@@ -1,0 +1,58 @@
+// Where a grid point lies against one closed ring: at a vertex, on an edge, or off the ring with its winding number,
+// counted by quarter turns as Hormann and Agathos do. The one call is `locate`; it has no `requires`.
+mod grid;
+mod turns;
+mod walk;
+
+ghost use mathlib.Core.Path.{_≡_};
+ghost use Rattle.ring.specs.Locate.{located, placeOf};
+
+const FEWEST_VERTICES: usize = 3;
+
+const MOST_VERTICES: usize = 2048;
+
+// A point of the grid, in whole millimetres.
+pub struct Point {
+    pub x: i32,
+    pub y: i32,
+}
+
+// Quarter turns and whole turns are separate counts: only `turns::whole` leads from the one to the other.
+pub struct Quarters(pub i32);
+
+pub struct Winding(pub i32);
+
+pub enum Parity {
+    Even,
+    Odd,
+}
+
+pub enum Refusal {
+    // The list has an odd length, or fewer than 3 or more than 2,048 vertices.
+    NoRing,
+    // A coordinate of the ring or of the point is beyond the grid.
+    BeyondGrid,
+}
+
+pub enum Located {
+    Vertex(usize),
+    Edge(usize),
+    Off(Winding, Parity),
+    Refused(Refusal),
+}
+
+// Where the point (x, y) lies against the ring x0, y0, x1, y1, .. A vertex comes before an edge, a lower index before a
+// higher one, and the closing edge has the last index. A list that makes no ring is refused before a coordinate beyond the grid.
+pub fn locate(ring: &[i32], x: i32, y: i32) -> Located
+    ensures { λ r. ⌜ placeOf r ≡ located (now (ring .entry)) x y ⌝ }
+{
+    let m = ring.len();
+    let n = m / 2;
+    if (m % 2 == 1) | ((n < FEWEST_VERTICES) | (MOST_VERTICES < n)) {
+        return Located::Refused(Refusal::NoRing);
+    }
+    if grid::some_beyond(ring) | (grid::beyond(x) | grid::beyond(y)) {
+        return Located::Refused(Refusal::BeyondGrid);
+    }
+    walk::round(ring, n, Point { x, y })
+}
