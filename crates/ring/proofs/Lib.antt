@@ -2,5 +2,11 @@ pub mod Pick
 pub mod Vertices
 pub mod OnGrid
 pub mod Quadrants
+pub mod Table
 pub mod Search
+pub mod Sums
+pub mod Fours
+pub mod Segments
+pub mod Known
 pub mod Walks
+pub mod Unique

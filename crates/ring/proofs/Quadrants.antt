@@ -1,26 +1,24 @@
 -- Quadrants, the quarter turns of an edge and R on its segment, as functions of five signs: those of Px - a, Py - b, Qx - a, Qy - b (R is (a, b)) and of the determinant.
 -- A law of them is then one test at all signs that can come together, closed by computing. Assumes nothing.
-use Prim.Native.Nat.{ℕ, zero, suc, _+_, _%_, _≤_, _<_}
+use Prim.Native.Nat.{ℕ, zero, suc, _+_, _*_, _%_, _≤_, _<_}
 use native.Mathlib.Omega.{arith}
 use mathlib.Core.Path.{_≡_, refl, sym, ap, _∙_, subst}
 use mathlib.Core.Bool.{Bool, true, false, not, _&&_, _||_, Bool·beq}
-use lib.Dec.{T, leb, ltb, eqb, leb→le, eqb→eq, lt→ltb, eqb·suc-zero, leb·suc-zero}
-use lib.IntN.{ℤ, pos, negsuc, negℤ, natAbs, _+ℤ_, _-ℤ_, _*ℤ_}
+use lib.Dec.{T, leb, eqb, leb→le, eqb→eq, eqb·suc-zero, leb·suc-zero}
+use lib.IntN.{ℤ, pos, negsuc, negℤ, natAbs, _-ℤ_, _*ℤ_}
 use lib.Signed.{ltZ, leZ}
-use borrow.Author.Tests.{ne-eqb}
+use borrow.Author.Tests.{eqb-false, ne-eqb}
 use Rattle.exact.specs.Sign.{Sign, minus, nought, plus, sign, eqZ}
 use Rattle.exact.proofs.Parts.{parts-sub, parts-neg, by-parts}
 use Rattle.exact.proofs.Signs.{flip, times, isPlus, isMinus, isNought, mayDiffer, every, every-at, provided, provided-yes, sign-mul, sign-sub, sign-turn, lt-sign, gt-sign, le-sign, ge-sign, eq-sign}
 use Rattle.exact.proofs.Fours.{rest}
 use Rattle.ring.specs.declared.Point.{Point}
-use Rattle.ring.specs.declared.Quarters.{Quarters}
-use Rattle.ring.specs.declared.turns.Turn.{Turn}
-use Rattle.ring.specs.declared.turns.Turn.the-variants.{Known, ByDeterminant}
 use Rattle.ring.specs.Grid.{pick}
 use Rattle.ring.specs.Rings.{Antisymmetric}
 use Rattle.ring.specs.Turns.{northEast, northWest, southWest, southEast, quadrant, determinant, twice, turnsBy, quarterTurns}
 use Rattle.ring.specs.Segment.{same, between, onSegment}
-use Rattle.ring.specs.Table.{entry, turnOf}
+use Rattle.ring.specs.Table.{byDeterminant, entry, turnOf, count, isHere}
+use Rattle.ring.proofs.Pick.{pick-true, pick-false}
 
 -- ---- the definitions by signs
 
@@ -119,7 +117,7 @@ signs-consistent R P Q =
 abbrev pub everyPoint : (Sign → Sign → Bool) → Bool
 everyPoint f = every (λ x. every (λ y. f x y))
 
-point-at : (f : Sign → Sign → Bool) → T (everyPoint f) → (x y : Sign) → T (f x y)
+pub point-at : (f : Sign → Sign → Bool) → T (everyPoint f) → (x y : Sign) → T (f x y)
 point-at f t x y = every-at (f x) (every-at (λ x. every (f x)) t x) y
 
 pub at-point : (f : Sign → Sign → Bool) → T (everyPoint f) → (R P : Point) → T (seenAt f R P)
@@ -152,27 +150,46 @@ same-quadrant R P = same-signs R P ∙ agree-eq (seenAt sameBy R P) (eqb (seenAt
 pub quadrant-most : (R P : Point) → quadrant R P ≤ 4
 quadrant-most R P = subst (λ (q : ℕ). q ≤ 4) (sym (quadrant-signs R P)) (leb→le (seenAt quadrantBy R P) 4 (at-point (λ x y. leb (quadrantBy x y) 4) tt R P))
 
-abbrev pub counted : Bool → ℕ
-counted true = 1
-counted false = 0
+pub away-apart : (R P : Point) → quadrant R P < 4 → same R P ≡ false
+away-apart R P h = same-quadrant R P ∙ ne-eqb (quadrant R P) 4 (λ e. omega arith)
+
+pub apart-away : (R P : Point) → same R P ≡ false → quadrant R P < 4
+apart-away R P e = let other : ¬ (quadrant R P ≡ 4) = eqb-false (quadrant R P) 4 (sym (same-quadrant R P) ∙ e) in omega (arith, quadrant-most R P)
 
 apart : (R P : Point) → same R P ≡ false → T (not (seenAt sameBy R P))
 apart R P e = subst (λ (b : Bool). T (not b)) (sym e ∙ same-signs R P) tt
 
 abbrev linesBy : Sign → Sign → ℕ
-linesBy x y = counted (eastBy x y) + (counted (northBy x y) + (counted (westBy x y) + counted (southBy x y)))
+linesBy x y = count (eastBy x y) + (count (northBy x y) + (count (westBy x y) + count (southBy x y)))
 
 -- every point but R is in exactly one quadrant: one line of the table holds
-pub one-line : (R P : Point) → same R P ≡ false → counted (northEast R P) + (counted (northWest R P) + (counted (southWest R P) + counted (southEast R P))) ≡ 1
-one-line R P e = (λ i. counted (east-signs R P i) + (counted (north-signs R P i) + (counted (west-signs R P i) + counted (south-signs R P i))))
+pub one-line : (R P : Point) → same R P ≡ false → count (northEast R P) + (count (northWest R P) + (count (southWest R P) + count (southEast R P))) ≡ 1
+one-line R P e = (λ i. count (east-signs R P i) + (count (north-signs R P i) + (count (west-signs R P i) + count (south-signs R P i))))
     ∙ eqb→eq (seenAt linesBy R P) 1 (provided-yes (not (seenAt sameBy R P)) (λ _. eqb (seenAt linesBy R P) 1) (at-point (λ x y. provided (not (sameBy x y)) (λ _. eqb (linesBy x y) 1)) tt R P) (apart R P e))
+
+-- the quadrant as a sum, which needs no branch: of the four lines and R itself exactly one fits
+abbrev atBy : Sign → Sign → Bool
+atBy x y = (not (isMinus x) && not (isPlus x)) && (not (isMinus y) && not (isPlus y))
+
+abbrev sumBy : Sign → Sign → ℕ
+sumBy x y = count (northBy x y) + 2 * count (westBy x y) + 3 * count (southBy x y) + 4 * count (atBy x y)
+
+pub quadrant-sum : (R P : Point) → count (northWest R P) + 2 * count (southWest R P) + 3 * count (southEast R P) + 4 * count (isHere R P) ≡ quadrant R P
+quadrant-sum R P =
+    (λ i. count (north-signs R P i) + 2 * count (west-signs R P i) + 3 * count (south-signs R P i)
+    + 4 * count ((le-sign (R .x) (P .x) i && ge-sign (R .x) (P .x) i) && (le-sign (R .y) (P .y) i && ge-sign (R .y) (P .y) i)))
+    ∙ eqb→eq (seenAt sumBy R P) (seenAt quadrantBy R P) (at-point (λ x y. eqb (sumBy x y) (quadrantBy x y)) tt R P)
+    ∙ sym (quadrant-signs R P)
 
 -- ---- quarter turns and the table
 
+-- whether an entry of the table is the mark
+abbrev marked : ℤ → Bool
+marked t = not (ltZ t byDeterminant)
+
 -- what an entry of the table comes to, given the determinant's sign
-abbrev turnAt : Turn → Sign → ℤ
-turnAt (Known t) s = t .0
-turnAt ByDeterminant s = twice s
+abbrev turnAt : ℤ → Sign → ℤ
+turnAt t s = pick (marked t) (twice s) t
 
 turns-entry : (d : ℤ) (s : Sign) → turnsBy d s ≡ turnAt (entry d) s
 turns-entry (pos zero) s = refl
@@ -187,10 +204,6 @@ turns-table : (R P Q : Point) → quarterTurns R P Q ≡ turnAt (turnOf (quadran
 unfolding quarterTurns
 turns-table R P Q = turns-entry (pos (quadrant R Q) -ℤ pos (quadrant R P)) (sign (determinant R P Q))
 
-abbrev needsDeterminant : Turn → Bool
-needsDeterminant (Known t) = false
-needsDeterminant ByDeterminant = true
-
 -- a test at the signs of an edge neither of whose ends is R
 abbrev everyAway : (Sign → Sign → Sign → Sign → Sign → Bool) → Bool
 everyAway f = everyEdge (λ px py qx qy d. provided (not (sameBy px py)) (λ _. provided (not (sameBy qx qy)) (λ _. f px py qx qy d)))
@@ -202,28 +215,29 @@ at-away f t R P Q p q =
     (at-edge (λ px py qx qy d. provided (not (sameBy px py)) (λ _. provided (not (sameBy qx qy)) (λ _. f px py qx qy d))) t R P Q) (apart R P p)) (apart R Q q)
 
 abbrev halfBy : Sign → Sign → Sign → Sign → Sign → Bool
-halfBy px py qx qy d = needsDeterminant (turnOf (quadrantBy px py) (quadrantBy qx qy)) && isNought d
+halfBy px py qx qy d = marked (turnOf (quadrantBy px py) (quadrantBy qx qy)) && isNought d
 
 -- an edge neither of whose ends is R holds it only where the table asks for the determinant, and there exactly if that is zero
-on-table : (R P Q : Point) → same R P ≡ false → same R Q ≡ false → onSegment R P Q ≡ needsDeterminant (turnOf (quadrant R P) (quadrant R Q)) && isNought (sign (determinant R P Q))
+on-table : (R P Q : Point) → same R P ≡ false → same R Q ≡ false → onSegment R P Q ≡ marked (turnOf (quadrant R P) (quadrant R Q)) && isNought (sign (determinant R P Q))
 on-table R P Q p q = on-signs R P Q
     ∙ agree-eq (seen onBy R P Q) (seen halfBy R P Q)
     (at-away (λ px py qx qy d. Bool·beq (onBy px py qx qy d) (halfBy px py qx qy d)) tt R P Q p q)
-    ∙ (λ i. needsDeterminant (turnOf (sym (quadrant-signs R P) i) (sym (quadrant-signs R Q) i)) && isNought (sign (determinant R P Q)))
-
-away : (R P : Point) → quadrant R P < 4 → same R P ≡ false
-away R P h = same-quadrant R P ∙ ne-eqb (quadrant R P) 4 (λ e. omega arith)
+    ∙ (λ i. marked (turnOf (sym (quadrant-signs R P) i) (sym (quadrant-signs R Q) i)) && isNought (sign (determinant R P Q)))
 
 zero-test : (z : ℤ) → leZ z (pos 0) && leZ (pos 0) z ≡ isNought (sign z)
 zero-test (pos zero) = refl
 zero-test (pos (suc n)) = ap (λ (b : Bool). b && leb 0 (suc n)) (leb·suc-zero n)
 zero-test (negsuc n) = refl
 
-pub turn-known : (R P Q : Point) (t : Quarters) → quadrant R P < 4 → quadrant R Q < 4 → turnOf (quadrant R P) (quadrant R Q) ≡ Known t → (quarterTurns R P Q ≡ t .0) × (onSegment R P Q ≡ false)
-turn-known R P Q t p q e = (turns-table R P Q ∙ ap (λ (u : Turn). turnAt u (sign (determinant R P Q))) e, on-table R P Q (away R P p) (away R Q q) ∙ ap (λ (u : Turn). needsDeterminant u && isNought (sign (determinant R P Q))) e)
+pub turn-known : (R P Q : Point) → quadrant R P < 4 → quadrant R Q < 4 → ltZ (turnOf (quadrant R P) (quadrant R Q)) byDeterminant ≡ true → (quarterTurns R P Q ≡ turnOf (quadrant R P) (quadrant R Q)) × (onSegment R P Q ≡ false)
+turn-known R P Q p q e =
+    let m = ap not e in
+    (turns-table R P Q ∙ pick-false m _ _, on-table R P Q (away-apart R P p) (away-apart R Q q) ∙ ap (λ (b : Bool). b && isNought (sign (determinant R P Q))) m)
 
-pub turn-half : (R P Q : Point) → quadrant R P < 4 → quadrant R Q < 4 → turnOf (quadrant R P) (quadrant R Q) ≡ ByDeterminant → (quarterTurns R P Q ≡ twice (sign (determinant R P Q))) × (onSegment R P Q ≡ leZ (determinant R P Q) (pos 0) && leZ (pos 0) (determinant R P Q))
-turn-half R P Q p q e = (turns-table R P Q ∙ ap (λ (u : Turn). turnAt u (sign (determinant R P Q))) e, on-table R P Q (away R P p) (away R Q q) ∙ ap (λ (u : Turn). needsDeterminant u && isNought (sign (determinant R P Q))) e ∙ sym (zero-test (determinant R P Q)))
+pub turn-half : (R P Q : Point) → quadrant R P < 4 → quadrant R Q < 4 → ltZ (turnOf (quadrant R P) (quadrant R Q)) byDeterminant ≡ false → (quarterTurns R P Q ≡ twice (sign (determinant R P Q))) × (onSegment R P Q ≡ leZ (determinant R P Q) (pos 0) && leZ (pos 0) (determinant R P Q))
+turn-half R P Q p q e =
+    let m = ap not e in
+    (turns-table R P Q ∙ pick-true m _ _, on-table R P Q (away-apart R P p) (away-apart R Q q) ∙ ap (λ (b : Bool). b && isNought (sign (determinant R P Q))) m ∙ sym (zero-test (determinant R P Q)))
 
 -- ---- how far an edge turns
 
@@ -245,7 +259,7 @@ pub turns-few : (R P Q : Point) → natAbs (quarterTurns R P Q) ≤ 2
 unfolding quarterTurns
 turns-few R P Q = turns-by-few (pos (quadrant R Q) -ℤ pos (quadrant R P)) (sign (determinant R P Q))
 
-entry-size : (d : ℤ) → natAbs (turnAt (entry d) nought) ≤ 1
+entry-size : (d : ℤ) → natAbs (entry d) ≤ 2
 entry-size (pos zero) = omega arith
 entry-size (pos (suc zero)) = omega arith
 entry-size (pos (suc (suc zero))) = omega arith
@@ -254,8 +268,8 @@ entry-size (negsuc zero) = omega arith
 entry-size (negsuc (suc zero)) = omega arith
 entry-size (negsuc (suc (suc k))) = omega arith
 
-pub entry-few : (q r : ℕ) (t : Quarters) → turnOf q r ≡ Known t → natAbs (t .0) ≤ 1
-entry-few q r t e = subst (λ (u : Turn). natAbs (turnAt u nought) ≤ 1) e (entry-size (pos r -ℤ pos q))
+pub entry-few : (q r : ℕ) → natAbs (turnOf q r) ≤ 2
+entry-few q r = entry-size (pos r -ℤ pos q)
 
 -- ---- the reverse of an edge turns the other way
 

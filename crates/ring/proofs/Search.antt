@@ -2,7 +2,7 @@
 use Prim.Native.Nat.{ℕ, zero, suc, _+_, _≤_, _<_}
 use native.Mathlib.Omega.{arith}
 use native.Mathlib.Decide.{ℕ-discrete}
-use mathlib.Core.Path.{_≡_, refl, sym, ap, _∙_, subst}
+use mathlib.Core.Path.{_≡_, refl, sym, _∙_, subst}
 use mathlib.Core.Bool.{Bool, true, false, true≢false}
 use Rattle.ring.specs.Grid.{pick}
 use Rattle.ring.specs.Locate.{lowest}
@@ -64,3 +64,7 @@ lowest-is p k i m e h = let l : Lowest p k i m = subst (Lowest p k i) e (lowest-
 
 pub lowest-all : (p : ℕ → Bool) (k i : ℕ) → lowest p k i ≡ i + k → (j : ℕ) → i ≤ j → j < i + k → p j ≡ false
 lowest-all p k i e = let l : Lowest p k i (i + k) = subst (Lowest p k i) e (lowest-holds p k i) in l .before
+
+-- a search from 0 that came to the end found nothing
+pub lowest-over : (p : ℕ → Bool) (n : ℕ) → n ≤ lowest p n 0 → (j : ℕ) → j < n → p j ≡ false
+lowest-over p n h j g = lowest-all p n 0 (omega (arith, lowest-most p n 0)) j (omega arith) (omega arith)

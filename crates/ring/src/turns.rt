@@ -8,54 +8,45 @@ ghost use Prim.Native.Nat.{_≤_, _<_};
 ghost use lib.IntN.{pos, natAbs, _+ℤ_};
 ghost use lib.Signed.{quotZ};
 ghost use Rattle.exact.specs.Sign.{sign};
-ghost use Rattle.ring.specs.Turns.{northEast, northWest, southWest, southEast, quadrant as quadrantOf, twice, oddly};
+ghost use Rattle.ring.specs.Turns.{northWest, southWest, southEast, quadrant as quadrantOf, twice, oddly};
 ghost use Rattle.ring.specs.Locate.{isOdd};
-ghost use Rattle.ring.specs.Table.{turnOf};
-
-// The quarter turns between two quadrants, or the mark that they are a half turn whose side the determinant tells.
-pub enum Turn {
-    Known(Quarters),
-    ByDeterminant,
-}
+ghost use Rattle.ring.specs.Table.{count, isHere};
 
 // What `quadrant` answers for r itself, which is in none.
 pub const NOWHERE: usize = 4;
 
-// From the quadrant of the row to that of the column.
-const TURNS: [[Turn; 4]; 4] = [
+// The mark in the table for a half turn, whose side the determinant tells. Every turn that the table knows is below it.
+pub const BY_DETERMINANT: i32 = 2;
+
+// The quarter turns from the quadrant of the row to that of the column.
+pub const TURNS: [[Quarters; 4]; 4] = [
     [
-        Turn::Known(Quarters(0)),
-        Turn::Known(Quarters(1)),
-        Turn::ByDeterminant,
-        Turn::Known(Quarters(-1)),
+        Quarters(0),
+        Quarters(1),
+        Quarters(BY_DETERMINANT),
+        Quarters(-1),
     ],
     [
-        Turn::Known(Quarters(-1)),
-        Turn::Known(Quarters(0)),
-        Turn::Known(Quarters(1)),
-        Turn::ByDeterminant,
+        Quarters(-1),
+        Quarters(0),
+        Quarters(1),
+        Quarters(BY_DETERMINANT),
     ],
     [
-        Turn::ByDeterminant,
-        Turn::Known(Quarters(-1)),
-        Turn::Known(Quarters(0)),
-        Turn::Known(Quarters(1)),
+        Quarters(BY_DETERMINANT),
+        Quarters(-1),
+        Quarters(0),
+        Quarters(1),
     ],
     [
-        Turn::Known(Quarters(1)),
-        Turn::ByDeterminant,
-        Turn::Known(Quarters(-1)),
-        Turn::Known(Quarters(0)),
+        Quarters(1),
+        Quarters(BY_DETERMINANT),
+        Quarters(-1),
+        Quarters(0),
     ],
 ];
 
-// The four lines of the table of quadrants. The eager `&` leaves no branch.
-fn north_east(r: Point, p: Point) -> bool
-    ensures { λ t. ⌜ t ≡ northEast r p ⌝ }
-{
-    (r.x < p.x) & (r.y <= p.y)
-}
-
+// The lines of the table of quadrants, but for the first. The eager `&` leaves no branch.
 fn north_west(r: Point, p: Point) -> bool
     ensures { λ t. ⌜ t ≡ northWest r p ⌝ }
 {
@@ -74,30 +65,26 @@ fn south_east(r: Point, p: Point) -> bool
     (r.x <= p.x) & (p.y < r.y)
 }
 
+fn here(r: Point, p: Point) -> bool
+    ensures { λ t. ⌜ t ≡ isHere r p ⌝ }
+{
+    ((r.x <= p.x) & (p.x <= r.x)) & ((r.y <= p.y) & (p.y <= r.y))
+}
+
+fn counted(test: bool) -> usize
+    ensures { λ k. ⌜ (k ≡ count test) × (k ≤ 1) ⌝ }
+{
+    test as usize
+}
+
+// The quadrant of p as seen from r, with no branch: of the lines of the table and r itself exactly one fits.
 pub fn quadrant(r: Point, p: Point) -> usize
     ensures { λ q. ⌜ q ≡ quadrantOf r p ⌝ }
 {
-    if north_east(r, p) {
-        return 0;
-    }
-    if north_west(r, p) {
-        return 1;
-    }
-    if south_west(r, p) {
-        return 2;
-    }
-    if south_east(r, p) {
-        return 3;
-    }
-    NOWHERE
-}
-
-pub fn turn_from(from: usize, to: usize) -> Turn
-    requires { ⌜ from < 4 ⌝ }
-    requires { ⌜ to < 4 ⌝ }
-    ensures { λ t. ⌜ t ≡ turnOf from to ⌝ }
-{
-    TURNS[from][to]
+    counted(north_west(r, p))
+        + 2 * counted(south_west(r, p))
+        + 3 * counted(south_east(r, p))
+        + NOWHERE * counted(here(r, p))
 }
 
 // The half turn on the side that the determinant tells; none where it is 0.

@@ -5,7 +5,6 @@ use crate::Point;
 use crate::Quarters;
 use crate::grid;
 use crate::turns;
-use crate::turns::Turn;
 ghost use mathlib.Core.Path.{_≡_};
 ghost use mathlib.Core.Bool.{_&&_, false};
 ghost use Prim.Native.Nat.{suc, _<_, _≤_};
@@ -14,6 +13,7 @@ ghost use lib.Signed.{leZ, quotZ};
 ghost use Rattle.exact.specs.Sign.{sign};
 ghost use Rattle.ring.specs.Grid.{vertices};
 ghost use Rattle.ring.specs.Rings.{at};
+ghost use Rattle.ring.specs.Table.{turnOf};
 ghost use Rattle.ring.specs.Turns.{determinant, quadrant, quarterTurns, twice};
 ghost use Rattle.ring.specs.Locate.{choose, onEdge, locatedOn, placeOf};
 ghost use Rattle.ring.specs.Walk.{OnGrid, Seen, Ready, Stands, Gone};
@@ -71,20 +71,20 @@ fn half_turned(w: Walk, to: usize, d: exact::Det, i: usize, n: usize) -> Walk
     v
 }
 
-// Along edge i, to a vertex in quadrant `to`; neither end is r.
-fn along(ring: &[i32], n: usize, r: Point, i: usize, w: Walk, to: usize) -> Walk
+// Along edge i, to a vertex in quadrant `to`; neither end is r, and t is the table's entry for the two quadrants.
+fn along(ring: &[i32], n: usize, r: Point, i: usize, w: Walk, to: usize, t: Quarters) -> Walk
     requires { ⌜ Ready (now ring) n r ⌝ }
     requires { ⌜ i < n ⌝ }
     requires { ⌜ Stands (vertices (now ring)) r i w ⌝ }
     requires { ⌜ to ≡ quadrant r (at (vertices (now ring)) (suc i)) ⌝ }
     requires { ⌜ to < 4 ⌝ }
+    requires { ⌜ t .0 ≡ turnOf (w .quadrant) to ⌝ }
     ensures { λ v. ⌜ Gone n i to (quarterTurns r (at (vertices (now (ring .entry))) i) (at (vertices (now (ring .entry))) (suc i))) (onEdge (vertices (now (ring .entry))) r i) w v ⌝ }
 {
-    let turn = turns::turn_from(w.quadrant, to);
-    match turn {
-        Turn::Known(t) => turned_by(w, to, t),
-        Turn::ByDeterminant => half_turned(w, to, determinant_at(ring, n, r, i), i, n),
+    if t.0 < turns::BY_DETERMINANT {
+        return turned_by(w, to, t);
     }
+    half_turned(w, to, determinant_at(ring, n, r, i), i, n)
 }
 
 // What a whole walk that met no vertex has found.
@@ -112,13 +112,15 @@ pub fn round(ring: &[i32], n: usize, r: Point) -> Located
         turned: Quarters(0),
         edge: n,
     };
+    let table = turns::TURNS;
     let mut i = 0;
     while i < n {
         let to = turns::quadrant(r, grid::vertex(ring, grid::next(i, n)));
         if to == turns::NOWHERE {
             return Located::Vertex(i + 1);
         }
-        walk = along(ring, n, r, i, walk, to);
+        let from = walk.quadrant;
+        walk = along(ring, n, r, i, walk, to, table[from][to]);
         i += 1;
     }
     settle(walk, n)

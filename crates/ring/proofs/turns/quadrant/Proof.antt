@@ -1,80 +1,83 @@
--- `ring::turns::quadrant` answers the first line of the table that fits: each return is by the tests that led there. Assumes nothing.
-use mathlib.Core.Path.{_≡_, sym, _∙_}
-use mathlib.Core.Bool.{true, false}
-use Prim.Native.Nat.{ℕ}
+-- `ring::turns::quadrant` adds up the tests, of which exactly one passes (`quadrant-sum`). Assumes nothing.
+use Prim.Native.Nat.{_+_, _*_}
+use mathlib.Core.Path.{ap, _∙_}
 use borrow.Author.Needs.{needs}
-use Rattle.ring.specs.Turns.{northEast, northWest, southWest, southEast, quadrant}
-use Rattle.ring.specs.Grid.{pick}
-use Rattle.ring.proofs.Pick.{pick-true, pick-false}
+use Rattle.ring.specs.Table.{count}
+use Rattle.ring.proofs.Quadrants.{quadrant-sum}
 use Rattle.ring.proofs.turns.quadrant.Statement.{statement}
 use Rattle.ring.proofs.turns.quadrant.Tie as tie
-
-north-east-requires : tie.Need-north-east-requires
-north-east-requires c κs = search needs
-
-returns : tie.Need-returns
-unfolding quadrant
-returns c = sym (pick-true (sym (c .before .north-east .ensures) ∙ c .if1 .taken) _ _)
 
 north-west-requires : tie.Need-north-west-requires
 north-west-requires c κs = search needs
 
-not-first : (c : tie.Else1) → northEast (c .before .before .args .r) (c .before .before .args .p) ≡ false
-not-first c = sym (c .before .north-east .ensures) ∙ c .if1 .left
-
-returns-2 : tie.Need-returns-2
-unfolding quadrant
-returns-2 c =
-    sym
-    (pick-false (not-first (c .before .before)) _ _
-    ∙ pick-true (sym (c .before .north-west .ensures) ∙ c .if2 .taken) _ _)
+counted-requires : tie.Need-counted-requires
+counted-requires c κs = search needs
 
 south-west-requires : tie.Need-south-west-requires
 south-west-requires c κs = search needs
 
-not-second : (c : tie.Else2) → northWest (c .before .before .before .before .args .r) (c .before .before .before .before .args .p) ≡ false
-not-second c = sym (c .before .north-west .ensures) ∙ c .if2 .left
+counted-requires-2 : tie.Need-counted-requires-2
+counted-requires-2 c κs = search needs
 
-returns-3 : tie.Need-returns-3
-unfolding quadrant
-returns-3 c =
-    let second = c .before .before in
-    sym
-    (pick-false (not-first (second .before .before)) _ _
-    ∙ pick-false (not-second second) _ _
-    ∙ pick-true (sym (c .before .south-west .ensures) ∙ c .if3 .taken) _ _)
+mul-result : tie.Need-mul-result
+mul-result c = search needs
+
+add-result : tie.Need-add-result
+add-result c = search needs
 
 south-east-requires : tie.Need-south-east-requires
 south-east-requires c κs = search needs
 
-module _ (c : tie.After-south-east) where
-  past-three : (q : ℕ) → pick (southEast (c .before .before .before .before .before .before .before .args .r) (c .before .before .before .before .before .before .before .args .p)) 3 4 ≡ q → q ≡ quadrant (c .before .before .before .before .before .before .before .args .r) (c .before .before .before .before .before .before .before .args .p)
-  unfolding quadrant
-  past-three q e =
-      let third = c .before in
-      let second = third .before .before in
-      sym
-      (pick-false (not-first (second .before .before)) _ _
-      ∙ pick-false (not-second second) _ _
-      ∙ pick-false (sym (third .before .south-west .ensures) ∙ third .if3 .left) _ _
-      ∙ e)
+counted-requires-3 : tie.Need-counted-requires-3
+counted-requires-3 c κs = search needs
 
-returns-4 : tie.Need-returns-4
-returns-4 c = past-three (c .before) _ (pick-true (sym (c .before .south-east .ensures) ∙ c .if4 .taken) _ _)
+mul-result-2 : tie.Need-mul-result-2
+mul-result-2 c = search needs
 
-returns-5 : tie.Need-returns-5
-returns-5 c = past-three (c .before) _ (pick-false (sym (c .before .south-east .ensures) ∙ c .if4 .left) _ _)
+add-result-2 : tie.Need-add-result-2
+add-result-2 c = search needs
+
+here-requires : tie.Need-here-requires
+here-requires c κs = search needs
+
+counted-requires-4 : tie.Need-counted-requires-4
+counted-requires-4 c κs = search needs
+
+mul-result-3 : tie.Need-mul-result-3
+mul-result-3 c = search needs
+
+add-result-3 : tie.Need-add-result-3
+add-result-3 c = search needs
+
+returns : tie.Need-returns
+returns c =
+    let third = c .before .before in
+    let second = third .before .before in
+    let first = second .before .before in
+    let a = first .before .before .args in
+    (λ i.
+    (first .counted .ensures .0 ∙ ap count (first .before .north-west .ensures)) i
+    + 2 * (second .counted2 .ensures .0 ∙ ap count (second .before .south-west .ensures)) i
+    + 3 * (third .counted3 .ensures .0 ∙ ap count (third .before .south-east .ensures)) i
+    + 4 * (c .counted4 .ensures .0 ∙ ap count (c .before .here .ensures)) i)
+    ∙ quadrant-sum (a .r) (a .p)
 
 pub quadrant-spec : {M : Type 1} → statement M
 quadrant-spec =
     tie.close
     (tie.spec
-    north-east-requires
-    returns
     north-west-requires
-    returns-2
+    counted-requires
     south-west-requires
-    returns-3
+    counted-requires-2
+    mul-result
+    add-result
     south-east-requires
-    returns-4
-    returns-5)
+    counted-requires-3
+    mul-result-2
+    add-result-2
+    here-requires
+    counted-requires-4
+    mul-result-3
+    add-result-3
+    returns)

@@ -10,15 +10,16 @@ use Rattle.ring.specs.Grid.{vertices}
 use Rattle.ring.specs.Rings.{at}
 use Rattle.ring.specs.Turns.{quadrant}
 use Rattle.ring.proofs.Vertices.{at-rest, length-vertices}
+use Rattle.ring.proofs.Table.{entry-at}
 use Rattle.ring.proofs.Walks.{Walked, is-here, in-quadrant, standing, walked-none, walked-more, meets, meets-next, walked-all}
 use Rattle.ring.proofs.walk.round.Statement.{statement}
 use Rattle.ring.proofs.walk.round.Tie as tie
 
 abbrev Inv-loop : tie.InvT-loop
-Inv-loop ring n r start walk₀ i₀ walk i = Walked (vertices ring) r n i walk
+Inv-loop ring n r start walk₀ table i₀ walk i = Walked (vertices ring) r n i walk
 
 abbrev μ-loop : tie.MeasureT-loop
-μ-loop ring n r start walk₀ i₀ walk i = n - i
+μ-loop ring n r start walk₀ table i₀ walk i = n - i
 
 -- the ring has n vertices
 size : (c : tie.Start Inv-loop μ-loop) → length (vertices (c .args .ring .now)) ≡ c .args .n
@@ -70,8 +71,8 @@ next-quadrant c =
 quadrant-requires-2 : tie.Need-quadrant-requires-2 Inv-loop μ-loop
 quadrant-requires-2 c κs = search needs
 
-add-t14 : tie.Need-add-t14 Inv-loop μ-loop
-add-t14 c =
+add-t36 : tie.Need-add-t36 Inv-loop μ-loop
+add-t36 c =
     let start = c .before .before .before .before .before .before .before .before .before in
     omega (arith, start .pre .most, c .before .before .before .before .loop-test .taken)
 
@@ -85,19 +86,47 @@ returns-2 c =
     (next-quadrant (c .before))
     (c .if2 .taken)
 
+-- the two quadrants are rows and columns of the table
+from-away : (c : tie.Else2 Inv-loop μ-loop) → c .before .before .before .before .before .loop .walk .quadrant < 4
+from-away c =
+    let turn = c .before .before .before .before .before in
+    let start = turn .before .before .before .before in
+    standing (vertices (start .args .ring .now)) (start .args .r) (start .args .n) (turn .loop .i) (turn .loop .walk) (start .pre .most) (turn .loop .inv) .away
+
+to-away : (c : tie.Else2 Inv-loop μ-loop) → c .before .quadrant2 .result < 4
+to-away c =
+    let turn = c .before .before .before .before .before in
+    let start = turn .before .before .before .before in
+    in-quadrant (start .args .r) (at (vertices (start .args .ring .now)) (suc (turn .loop .i))) _ (next-quadrant (c .before)) (c .if2 .left)
+
+mul-along : tie.Need-mul-along Inv-loop μ-loop
+mul-along c = omega (arith, from-away c)
+
+mul-along-2 : tie.Need-mul-along-2 Inv-loop μ-loop
+mul-along-2 c = omega (arith, to-away c)
+
+index-1-along : tie.Need-index-1-along Inv-loop μ-loop
+index-1-along c = from-away c
+
+index-2-along : tie.Need-index-2-along Inv-loop μ-loop
+index-2-along c = to-away c
+
 along-requires : tie.Need-along-requires Inv-loop μ-loop
 along-requires c κs =
-    let turn = c .before .before .before .before .before in
+    let turn = c .before .before .before .before .before .before in
     let start = turn .before .before .before .before in
     let P = vertices (start .args .ring .now) in (
       start .pre,
       (
-        c .before .before .before .before .loop-test .taken,
+        c .before .before .before .before .before .loop-test .taken,
         (
           standing P (start .args .r) (start .args .n) (turn .loop .i) (turn .loop .walk) (start .pre .most) (turn .loop .inv),
           (
-            next-quadrant (c .before),
-            in-quadrant (start .args .r) (at P (suc (turn .loop .i))) _ (next-quadrant (c .before)) (c .if2 .left),
+            next-quadrant (c .before .before),
+            (
+              to-away (c .before),
+              entry-at _ (turn .loop .walk .quadrant) (c .before .before .quadrant2 .result) (from-away (c .before)) (to-away (c .before)),
+            ),
           ),
         ),
       ),
@@ -105,21 +134,21 @@ along-requires c κs =
 
 add-i : tie.Need-add-i Inv-loop μ-loop
 add-i c =
-    let start = c .before .before .before .before .before .before .before .before .before .before in
-    omega (arith, start .pre .most, c .before .before .before .before .before .loop-test .taken)
+    let start = c .before .before .before .before .before .before .before .before .before .before .before in
+    omega (arith, start .pre .most, c .before .before .before .before .before .before .loop-test .taken)
 
 loop-less : tie.Need-loop-less Inv-loop μ-loop
 loop-less c = search needs
 
 loop-again : tie.Need-loop-again Inv-loop μ-loop
 loop-again c =
-    let turn = c .before .before .before .before .before .before in
+    let turn = c .before .before .before .before .before .before .before in
     let start = turn .before .before .before .before in
     walked-more (vertices (start .args .ring .now)) (start .args .r) (start .args .n) (turn .loop .i) _ (turn .loop .walk) (c .along .result)
-    (c .before .before .before .before .before .loop-test .taken)
+    (c .before .before .before .before .before .before .loop-test .taken)
     (turn .loop .inv)
-    (next-quadrant (c .before .before))
-    (c .before .if2 .left)
+    (next-quadrant (c .before .before .before))
+    (c .before .before .if2 .left)
     (c .along .ensures)
 
 settle-requires : tie.Need-settle-requires Inv-loop μ-loop
@@ -147,8 +176,12 @@ round-spec =
     next-requires
     vertex-requires-2
     quadrant-requires-2
-    add-t14
+    add-t36
     returns-2
+    mul-along
+    mul-along-2
+    index-1-along
+    index-2-along
     along-requires
     add-i
     loop-less

@@ -1,0 +1,61 @@
+-- The quarter turns round a ring that does not hold R add up to a multiple of four, and the winding number is exactly a quarter of them. Assumes nothing.
+use Prim.Native.Nat.{ℕ, zero, suc, _+_, _%_, _≤_, _<_}
+use native.Mathlib.Omega.{arith}
+use native.Mathlib.Decide.{ℕ-discrete}
+use mathlib.Core.Path.{_≡_, refl, sym, ap, _∙_}
+use mathlib.Core.Bool.{Bool, true, false}
+use mathlib.Core.List.{List}
+use lib.Dec.{ltb}
+use lib.ListN.{length}
+use lib.IntN.{ℤ, pos, _*ℤ_}
+use borrow.Author.Tests.{ltb-false}
+use Rattle.exact.proofs.Fours.{rest, rest-lt, rest-add, quarter-exact}
+use Rattle.ring.specs.declared.Point.{Point}
+use Rattle.ring.specs.Grid.{pick}
+use Rattle.ring.specs.Rings.{at, total, ringSum}
+use Rattle.ring.specs.Turns.{quadrant, quarterTurns, winding, oddly}
+use Rattle.ring.specs.Segment.{same}
+use Rattle.ring.specs.Locate.{vertex, edge, off, lowest, atVertex, onEdge, choose, locatedOn}
+use Rattle.ring.proofs.Vertices.{at-end}
+use Rattle.ring.proofs.Quadrants.{apart-away, turns-rest}
+use Rattle.ring.proofs.Search.{lowest-over}
+
+module _ (P : List Point) (R : Point) (some : 0 < length P) (free : (i : ℕ) → i < length P → (atVertex P R i ≡ false) × (onEdge P R i ≡ false)) where
+  apart : (i : ℕ) → i ≤ length P → same R (at P i) ≡ false
+  apart i h = elim (ℕ-discrete i (length P)) [ yes last ↦ ap (λ (k : ℕ). same R (at P k)) last ∙ ap (same R) (at-end P some) ∙ free 0 some .0 | no other ↦ free i (omega arith) .0 ]
+
+  -- the edges so far lead from the first vertex's quadrant to that of the vertex reached, whole turns aside
+  leads : (k : ℕ) → k ≤ length P → (quadrant R (at P 0) + rest (total (quarterTurns R) (at P) k)) % 4 ≡ quadrant R (at P k)
+  unfolding total
+  leads zero h = omega (arith, apart-away R (at P 0) (apart 0 (omega arith)))
+  leads (suc k) h = omega (arith, leads k (omega arith), rest-add (total (quarterTurns R) (at P) k) (quarterTurns R (at P k) (at P (suc k))), turns-rest R (at P k) (at P (suc k)) (apart k (omega arith)) (apart (suc k) h) (free k h .1))
+
+  pub quarters-close : rest (ringSum (quarterTurns R) P) ≡ 0
+  unfolding ringSum
+  quarters-close =
+      let close : quadrant R (at P (length P)) ≡ quadrant R (at P 0) = ap (quadrant R) (at-end P some) in
+      omega (arith, leads (length P) (omega arith), apart-away R (at P 0) (apart 0 (omega arith)), rest-lt (ringSum (quarterTurns R) P))
+
+  pub winding-exact : pos 4 *ℤ winding P R ≡ ringSum (quarterTurns R) P
+  unfolding winding
+  winding-exact = quarter-exact (ringSum (quarterTurns R) P) quarters-close
+
+-- ---- the same of an answer Off
+
+-- such an answer comes where both searches found nothing
+choose-off : (n v e : ℕ) (w z : ℤ) (o : Bool) → choose n v e z ≡ off w o → (n ≤ v) × (n ≤ e) × (z ≡ w)
+choose-off n v e w z o = go (ltb v n) (ltb e n) (ltb-false v n) (ltb-false e n)
+  where
+    go : (a b : Bool) → (a ≡ false → n ≤ v) → (b ≡ false → n ≤ e) → pick a (vertex v) (pick b (edge e) (off z (oddly z))) ≡ off w o → (n ≤ v) × (n ≤ e) × (z ≡ w)
+    go true b f g h = let clash : _≡_ {A = ℕ} 0 1 = cc in absurd (let f : ⊥ = omega arith in f)
+    go false true f g h = let clash : _≡_ {A = ℕ} 0 1 = cc in absurd (let f : ⊥ = omega arith in f)
+    go false false f g h = (f refl, g refl, cc)
+
+off-said : (P : List Point) (R : Point) (w : ℤ) (o : Bool) → locatedOn P R ≡ off w o → (length P ≤ lowest (atVertex P R) (length P) 0) × (length P ≤ lowest (onEdge P R) (length P) 0) × (winding P R ≡ w)
+unfolding locatedOn
+off-said P R w o e = choose-off (length P) (lowest (atVertex P R) (length P) 0) (lowest (onEdge P R) (length P) 0) w (winding P R) o e
+
+pub off-exact : (P : List Point) (R : Point) (w : ℤ) (o : Bool) → 0 < length P → locatedOn P R ≡ off w o → pos 4 *ℤ w ≡ ringSum (quarterTurns R) P
+off-exact P R w o some e =
+    let s = off-said P R w o e in
+    ap (λ (z : ℤ). pos 4 *ℤ z) (sym (s .2)) ∙ winding-exact P R some (λ i h. (lowest-over (atVertex P R) (length P) (s .0) i h, lowest-over (onEdge P R) (length P) (s .1) i h))
