@@ -4,22 +4,25 @@ ghost use mathlib.Core.Path.{_≡_};
 ghost use lib.IntN.{_-ℤ_};
 ghost use Rattle.exact.specs.Sign.{Short, cross};
 
+// The width that a determinant of grid points needs.
+type Wide = i64;
+
 // The way from one point to another.
 pub struct Arrow {
-    pub x: i64,
-    pub y: i64,
+    pub x: Wide,
+    pub y: Wide,
 }
 
 // A determinant of two arrows.
-pub struct Det(pub i64);
+pub struct Det(pub Wide);
 
 // The way from (from_x, from_y) to (to_x, to_y); no two 32-bit coordinates are too far apart for it.
 pub fn between(from_x: i32, from_y: i32, to_x: i32, to_y: i32) -> Arrow
     ensures { λ r. ⌜ (r .x ≡ «to_x» -ℤ «from_x») × (r .y ≡ «to_y» -ℤ «from_y») ⌝ }
 {
     Arrow {
-        x: to_x as i64 - from_x as i64,
-        y: to_y as i64 - from_y as i64,
+        x: to_x as Wide - from_x as Wide,
+        y: to_y as Wide - from_y as Wide,
     }
 }
 

@@ -1,22 +1,23 @@
 -- The quarter turns round a ring that does not hold R add up to a multiple of four, and the winding number is exactly a quarter of them. Assumes nothing.
-use Prim.Native.Nat.{ℕ, zero, suc, _+_, _%_, _≤_, _<_}
+use Prim.Native.Nat.{ℕ, zero, suc, _+_, _/_, _%_, _≤_, _<_}
 use native.Mathlib.Omega.{arith}
 use native.Mathlib.Decide.{ℕ-discrete}
 use mathlib.Core.Path.{_≡_, refl, sym, ap, _∙_}
-use mathlib.Core.Bool.{Bool, true, false}
+use mathlib.Core.Bool.{Bool, true, false, _||_}
 use mathlib.Core.List.{List}
-use lib.Dec.{ltb}
+use lib.Dec.{ltb, eqb}
 use lib.ListN.{length}
 use lib.IntN.{ℤ, pos, _*ℤ_}
 use borrow.Author.Tests.{ltb-false}
 use Rattle.exact.proofs.Fours.{rest, rest-lt, rest-add, quarter-exact}
 use Rattle.ring.specs.declared.Point.{Point}
-use Rattle.ring.specs.Grid.{pick}
+use Rattle.ring.specs.Grid.{pick, point, beyond, someBeyond, vertices, noRing}
 use Rattle.ring.specs.Rings.{at, total, ringSum}
 use Rattle.ring.specs.Turns.{quadrant, quarterTurns, winding, oddly}
 use Rattle.ring.specs.Segment.{same}
-use Rattle.ring.specs.Locate.{vertex, edge, off, lowest, atVertex, onEdge, choose, locatedOn}
-use Rattle.ring.proofs.Vertices.{at-end}
+use Rattle.ring.specs.Locate.{Place, vertex, edge, off, refused, lowest, atVertex, onEdge, choose, locatedOn, located}
+use Rattle.ring.proofs.Vertices.{at-end, length-at-least}
+use Rattle.ring.proofs.Pick.{neither-left, neither-right}
 use Rattle.ring.proofs.Quadrants.{apart-away, turns-rest}
 use Rattle.ring.proofs.Search.{lowest-over}
 
@@ -59,3 +60,18 @@ pub off-exact : (P : List Point) (R : Point) (w : ℤ) (o : Bool) → 0 < length
 off-exact P R w o some e =
     let s = off-said P R w o e in
     ap (λ (z : ℤ). pos 4 *ℤ z) (sym (s .2)) ∙ winding-exact P R some (λ i h. (lowest-over (atVertex P R) (length P) (s .0) i h, lowest-over (onEdge P R) (length P) (s .1) i h))
+
+-- an answer Off of `located` is no refusal
+accepted : (a b : Bool) (l : Place) (w : ℤ) (o : Bool) → pick a (refused 4) (pick b (refused 5) l) ≡ off w o → (a ≡ false) × (l ≡ off w o)
+accepted true b l w o e = let clash : _≡_ {A = ℕ} 0 1 = cc in absurd (let f : ⊥ = omega arith in f)
+accepted false true l w o e = let clash : _≡_ {A = ℕ} 0 1 = cc in absurd (let f : ⊥ = omega arith in f)
+accepted false false l w o e = (refl, e)
+
+-- of any list and point: an answer Off carries exactly a quarter of the quarter turns
+pub located-exact : (xs : List ℤ) (a b w : ℤ) (o : Bool) → located xs a b ≡ off w o → pos 4 *ℤ w ≡ ringSum (quarterTurns (point a b)) (vertices xs)
+unfolding located
+located-exact xs a b w o e =
+    let m = length xs in
+    let (ring, found) = accepted (noRing m (m / 2)) (someBeyond xs || (beyond a || beyond b)) (locatedOn (vertices xs) (point a b)) w o e in
+    let few = ltb-false (m / 2) 3 (neither-left (ltb (m / 2) 3) _ (neither-right (eqb (m % 2) 1) _ ring)) in
+    off-exact (vertices xs) (point a b) w o (length-at-least xs 0 (omega arith)) found

@@ -16,16 +16,8 @@ use Rattle.exact.proofs.Poly.{Expr, var, num, add, mul, neg, sub, identity, fol
 use Rattle.ring.specs.declared.Point.{Point}
 use Rattle.ring.specs.Grid.{point}
 use Rattle.ring.specs.Turns.{determinant}
-use Rattle.ring.specs.Segment.{same, onSegment}
+use Rattle.ring.specs.Segment.{same, onSegment, Weighs}
 use Rattle.ring.proofs.Quadrants.{across, up, betweenBy, onBy, sameBy, on-signs, same-signs, seen, everyPoint, point-at, at-point, agree-eq}
-
--- R is the average of P with weight s and Q with weight t
-pub record Weighs (R P Q : Point) : Type 0 where
-  pub s : ℕ
-  pub t : ℕ
-  pub some : 0 < s + t
-  pub across : pos s *ℤ P .x +ℤ pos t *ℤ Q .x ≡ pos (s + t) *ℤ R .x
-  pub up : pos s *ℤ P .y +ℤ pos t *ℤ Q .y ≡ pos (s + t) *ℤ R .y
 
 -- ---- an average of p and q is a exactly if the weighted differences from a cancel
 

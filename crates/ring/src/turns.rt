@@ -18,32 +18,20 @@ pub const NOWHERE: usize = 4;
 // The mark in the table for a half turn, whose side the determinant tells. Every turn that the table knows is below it.
 pub const BY_DETERMINANT: i32 = 2;
 
+const NONE: Quarters = Quarters(0);
+
+const LEFT: Quarters = Quarters(1);
+
+const RIGHT: Quarters = Quarters(-1);
+
+const HALF: Quarters = Quarters(BY_DETERMINANT);
+
 // The quarter turns from the quadrant of the row to that of the column.
 pub const TURNS: [[Quarters; 4]; 4] = [
-    [
-        Quarters(0),
-        Quarters(1),
-        Quarters(BY_DETERMINANT),
-        Quarters(-1),
-    ],
-    [
-        Quarters(-1),
-        Quarters(0),
-        Quarters(1),
-        Quarters(BY_DETERMINANT),
-    ],
-    [
-        Quarters(BY_DETERMINANT),
-        Quarters(-1),
-        Quarters(0),
-        Quarters(1),
-    ],
-    [
-        Quarters(1),
-        Quarters(BY_DETERMINANT),
-        Quarters(-1),
-        Quarters(0),
-    ],
+    [NONE, LEFT, HALF, RIGHT],
+    [RIGHT, NONE, LEFT, HALF],
+    [HALF, RIGHT, NONE, LEFT],
+    [LEFT, HALF, RIGHT, NONE],
 ];
 
 // The lines of the table of quadrants, but for the first. The eager `&` leaves no branch.

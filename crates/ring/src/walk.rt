@@ -115,9 +115,10 @@ pub fn round(ring: &[i32], n: usize, r: Point) -> Located
     let table = turns::TURNS;
     let mut i = 0;
     while i < n {
-        let to = turns::quadrant(r, grid::vertex(ring, grid::next(i, n)));
+        let ahead = grid::next(i, n);
+        let to = turns::quadrant(r, grid::vertex(ring, ahead));
         if to == turns::NOWHERE {
-            return Located::Vertex(i + 1);
+            return Located::Vertex(ahead);
         }
         let from = walk.quadrant;
         walk = along(ring, n, r, i, walk, to, table[from][to]);

@@ -1,36 +1,27 @@
 -- Each difference is of numbers that fit 32 bits, so it fits 64. Assumes nothing.
 use Rattle.exact.proofs.between.Statement.{statement}
 use Rattle.exact.proofs.between.Tie as tie
-use Rattle.exact.proofs.between.Reads as reads
-use Rattle.exact.proofs.between.Lts as lts
 use borrow.Author.Needs.{needs}
 use Rattle.exact.proofs.Bounds.{signed}
 
--- src/lib.rt:21:12
 cast-t5 : tie.Need-cast-t5
 cast-t5 c = search (needs, signed)
 
--- src/lib.rt:21:26
 cast-t6 : tie.Need-cast-t6
 cast-t6 c = search (needs, signed)
 
--- src/lib.rt:21:12
 sub-t7 : tie.Need-sub-t7
 sub-t7 c = search (needs, signed)
 
--- src/lib.rt:22:12
 cast-t8 : tie.Need-cast-t8
 cast-t8 c = search (needs, signed)
 
--- src/lib.rt:22:26
 cast-t9 : tie.Need-cast-t9
 cast-t9 c = search (needs, signed)
 
--- src/lib.rt:22:12
 sub-t10 : tie.Need-sub-t10
 sub-t10 c = search (needs, signed)
 
--- src/lib.rt:17:1
 returns : tie.Need-returns
 returns c = search (needs, signed)
 

@@ -1,24 +1,18 @@
 -- Each part of a short arrow is at most 2,000,000,000, so the two products and their difference stay below 2 ^ 63. Assumes nothing.
 use Rattle.exact.proofs.determinant.Statement.{statement}
 use Rattle.exact.proofs.determinant.Tie as tie
-use Rattle.exact.proofs.determinant.Reads as reads
-use Rattle.exact.proofs.determinant.Lts as lts
 use borrow.Author.Needs.{needs}
 use Rattle.exact.proofs.Bounds.{signed}
 
--- src/lib.rt:32:9
 mul-t3 : tie.Need-mul-t3
 mul-t3 c = search (needs, signed)
 
--- src/lib.rt:32:21
 mul-t4 : tie.Need-mul-t4
 mul-t4 c = search (needs, signed)
 
--- src/lib.rt:32:9
 sub-t5 : tie.Need-sub-t5
 sub-t5 c = search (needs, signed)
 
--- src/lib.rt:27:1
 returns : tie.Need-returns
 returns c = search (needs, signed)
 

@@ -9,6 +9,7 @@ use borrow.Author.Needs.{needs}
 use Rattle.ring.specs.Grid.{vertices}
 use Rattle.ring.specs.Rings.{at}
 use Rattle.ring.specs.Turns.{quadrant}
+use Rattle.ring.specs.Locate.{vertex}
 use Rattle.ring.proofs.Vertices.{at-rest, length-vertices}
 use Rattle.ring.proofs.Table.{entry-at}
 use Rattle.ring.proofs.Walks.{Walked, is-here, in-quadrant, standing, walked-none, walked-more, meets, meets-next, walked-all}
@@ -71,16 +72,12 @@ next-quadrant c =
 quadrant-requires-2 : tie.Need-quadrant-requires-2 Inv-loop μ-loop
 quadrant-requires-2 c κs = search needs
 
-add-t36 : tie.Need-add-t36 Inv-loop μ-loop
-add-t36 c =
-    let start = c .before .before .before .before .before .before .before .before .before in
-    omega (arith, start .pre .most, c .before .before .before .before .loop-test .taken)
-
 returns-2 : tie.Need-returns-2 Inv-loop μ-loop
 returns-2 c =
     let turn = c .before .before .before .before .before in
     let start = turn .before .before .before .before in
-    meets-next (vertices (start .args .ring .now)) (start .args .r) (start .args .n) (size start) (turn .loop .i) _ (turn .loop .walk)
+    ap vertex (c .before .before .before .next .ensures)
+    ∙ meets-next (vertices (start .args .ring .now)) (start .args .r) (start .args .n) (size start) (turn .loop .i) _ (turn .loop .walk)
     (c .before .before .before .before .loop-test .taken)
     (turn .loop .inv)
     (next-quadrant (c .before))
@@ -176,7 +173,6 @@ round-spec =
     next-requires
     vertex-requires-2
     quadrant-requires-2
-    add-t36
     returns-2
     mul-along
     mul-along-2
