@@ -1,0 +1,52 @@
+-- `again` meets its contract. The invariant: the list keeps its length, and `i` is at least the first ring's n. Assumes nothing.
+use Prim.Native.Nat.{_≤_, _-_}
+use mathlib.Core.Path.{_≡_}
+use borrow.Author.Needs.{needs}
+use lib.ListN.{length}
+use Rattle.points.proofs.made.again.Statement.{statement}
+use Rattle.points.proofs.made.again.Tie as tie
+
+abbrev Inv-loop : tie.InvT-loop
+Inv-loop list₀ n whole i₀ list i = (n ≤ i) × (length list ≡ length list₀)
+
+abbrev μ-loop : tie.MeasureT-loop
+μ-loop list₀ n whole i₀ list i = whole - i
+
+loop-holds : tie.Need-loop-holds Inv-loop μ-loop
+loop-holds c = search needs
+
+sub-copy : tie.Need-sub-copy Inv-loop μ-loop
+sub-copy c = search needs
+
+copy-requires : tie.Need-copy-requires Inv-loop μ-loop
+copy-requires c κs = search needs
+
+add-i : tie.Need-add-i Inv-loop μ-loop
+add-i c = search needs
+
+loop-less : tie.Need-loop-less Inv-loop μ-loop
+loop-less c = search needs
+
+loop-again : tie.Need-loop-again Inv-loop μ-loop
+loop-again c = search needs
+
+same-length : tie.Need-same-length Inv-loop μ-loop
+same-length c = search needs
+
+returns : tie.Need-returns Inv-loop μ-loop
+returns c = search needs
+
+pub again-spec : {M : Type 1} → statement M
+again-spec =
+    tie.close
+    (tie.spec
+    Inv-loop
+    μ-loop
+    loop-holds
+    sub-copy
+    copy-requires
+    add-i
+    loop-less
+    loop-again
+    same-length
+    returns)
