@@ -2,17 +2,15 @@
 // where they differ: first document 01's known points, a line each, then made rings, a line for each kind.
 // The rings come from a fixed seed, so that every run prints the same. Proved safe and ending; what it prints is compared.
 mod answer;
-mod chance;
 mod known;
-mod made;
 mod say;
 mod tally;
 
-use made::Kind;
+use cases::Kind;
 use tally::Tally;
 ghost use mathlib.Core.Path.{_≡_};
 ghost use lib.ListN.{length};
-ghost use Rattle.points.specs.Room.{room};
+ghost use Rattle.cases.specs.Room.{room};
 
 const SEED: usize = 20_011_120;
 
@@ -42,7 +40,7 @@ fn main() {
 
 // Asks about so many of one kind, prints what came of them, and adds that to all.
 fn kind(name: &[u8], what: Kind, times: usize, seed: &mut usize, all: Tally) -> Tally {
-    let mut space = [0i32; made::ROOM];
+    let mut space = [0i32; cases::ROOM];
     let t = many(what, times, &mut space, seed, all.started());
     t.print(name);
     all.with(t)
@@ -63,7 +61,7 @@ fn many(what: Kind, times: usize, list: &mut [i32], seed: &mut usize, start: Tal
 fn one(what: Kind, list: &mut [i32], seed: &mut usize, t: Tally) -> Tally
     requires { ⌜ length (now list) ≡ room ⌝ }
 {
-    let case = made::make(what, list, seed);
+    let case = cases::make(what, list, seed);
     let m = case.m;
     let part = &list[0..m];
     t.counted(

@@ -1,8 +1,8 @@
 // How often each answer came, how many differ, and a digest of all of them in their order.
 use crate::answer;
 use crate::answer::Answer;
-use crate::chance::mixed;
 use crate::say;
+use cases::chance::mixed;
 
 pub struct Tally {
     pub asked: usize,

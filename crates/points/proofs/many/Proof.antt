@@ -1,5 +1,5 @@
 -- `many` meets its contract. The invariant: the list keeps its length. The measure is how many are left. Assumes nothing.
-use Rattle.points.specs.Room.{room}
+use Rattle.cases.specs.Room.{room}
 use Prim.Native.Nat.{_-_}
 use mathlib.Core.Path.{_≡_}
 use borrow.Author.Needs.{needs}

@@ -3,8 +3,8 @@ use Prim.Native.Nat.{_≤_, _-_}
 use mathlib.Core.Path.{_≡_}
 use borrow.Author.Needs.{needs}
 use lib.ListN.{length}
-use Rattle.points.proofs.made.again.Statement.{statement}
-use Rattle.points.proofs.made.again.Tie as tie
+use Rattle.cases.proofs.again.Statement.{statement}
+use Rattle.cases.proofs.again.Tie as tie
 
 abbrev Inv-loop : tie.InvT-loop
 Inv-loop list₀ n whole i₀ list i = (n ≤ i) × (length list ≡ length list₀)

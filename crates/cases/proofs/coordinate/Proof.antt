@@ -6,8 +6,8 @@ use lib.IntN.{pos, negsuc, _-ℤ_, +ℤ-idl}
 use mir.Syntax.{w32}
 use mir.Val.{SFits, toZ}
 use mir.ValLaws.{toZ-ofZ}
-use Rattle.points.proofs.made.coordinate.Statement.{statement}
-use Rattle.points.proofs.made.coordinate.Tie as tie
+use Rattle.cases.proofs.coordinate.Statement.{statement}
+use Rattle.cases.proofs.coordinate.Tie as tie
 
 negative : (n : ℕ) → n < 2 ^ 31 → SFits w32 (pos 0 -ℤ pos n)
 negative zero h = record { sfits = omega arith }

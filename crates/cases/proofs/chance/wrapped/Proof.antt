@@ -1,8 +1,8 @@
 -- `wrapped` meets its contract, by the law of the remainder. Assumes nothing.
 use native.Mathlib.Nat.{mod-lt}
 use borrow.Author.Needs.{needs}
-use Rattle.points.proofs.chance.wrapped.Statement.{statement}
-use Rattle.points.proofs.chance.wrapped.Tie as tie
+use Rattle.cases.proofs.chance.wrapped.Statement.{statement}
+use Rattle.cases.proofs.chance.wrapped.Tie as tie
 
 rem-result : tie.Need-rem-result
 rem-result c = search needs

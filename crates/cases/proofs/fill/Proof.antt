@@ -3,8 +3,8 @@ use Prim.Native.Nat.{_≤_, _+_, _-_}
 use mathlib.Core.Path.{_≡_}
 use borrow.Author.Needs.{needs}
 use lib.ListN.{length}
-use Rattle.points.proofs.made.fill.Statement.{statement}
-use Rattle.points.proofs.made.fill.Tie as tie
+use Rattle.cases.proofs.fill.Statement.{statement}
+use Rattle.cases.proofs.fill.Tie as tie
 
 abbrev Inv-loop : tie.InvT-loop
 Inv-loop list₀ n spread seed₀ k₀ list seed k = (k ≤ n + n) × (length list ≡ length list₀)

@@ -1,11 +1,13 @@
-// Rings and points from a seed, kind by kind. A list of ROOM numbers is lent, and a ring is written to its first places.
+// Rings and points to ask about, made from a seed, kind by kind; each function is proved safe and ending. A list of ROOM numbers is lent, and a ring is written to its first places.
 // Coordinates are drawn as numbers that are never negative, MIDDLE for 0; the grid's go from 1 to 2 MIDDLE - 1.
-use crate::chance::draw;
-use crate::chance::wrapped;
+pub mod chance;
+
+use chance::draw;
+use chance::wrapped;
 ghost use mathlib.Core.Path.{_≡_};
 ghost use Prim.Native.Nat.{_+_, _*_, _≤_, _<_};
 ghost use lib.ListN.{length};
-ghost use Rattle.points.specs.Room.{room, OnGrid};
+ghost use Rattle.cases.specs.Room.{room, OnGrid};
 
 // How many numbers the lent list has: room for two vertices more than a ring may have.
 pub const ROOM: usize = 4100;

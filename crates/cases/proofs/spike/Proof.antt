@@ -3,8 +3,8 @@ use Prim.Native.Nat.{_≤_, _-_}
 use mathlib.Core.Path.{_≡_}
 use borrow.Author.Needs.{needs}
 use lib.ListN.{length}
-use Rattle.points.proofs.made.spike.Statement.{statement}
-use Rattle.points.proofs.made.spike.Tie as tie
+use Rattle.cases.proofs.spike.Statement.{statement}
+use Rattle.cases.proofs.spike.Tie as tie
 
 abbrev Inv-loop : tie.InvT-loop
 Inv-loop list₀ n seed₀ i₀ list seed i = (2 ≤ i) × (length list ≡ length list₀)
