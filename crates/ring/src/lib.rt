@@ -1,10 +1,16 @@
 // Where a grid point lies against one closed ring: at a vertex, on an edge, or off the ring with its winding number,
-// counted by quarter turns as Hormann and Agathos do. The one call is `locate`; it has no `requires`.
+// counted by quarter turns as Hormann and Agathos do. The call for everybody is `locate`; it has no `requires`. The crates above
+// that know their rings to be good use `locate_on`, which tests nothing again.
 mod grid;
 mod turns;
 mod walk;
 
+pub use grid::beyond;
+pub use grid::some_beyond;
+pub use walk::locate_on;
 ghost use mathlib.Core.Path.{_≡_};
+ghost use Prim.Native.Nat.{_/_};
+ghost use Rattle.ring.specs.Grid.{noRing};
 ghost use Rattle.ring.specs.Locate.{located, placeOf};
 
 const FEWEST_VERTICES: usize = 3;
@@ -41,18 +47,25 @@ pub enum Located {
     Refused(Refusal),
 }
 
+// Whether a list of m numbers makes no ring.
+pub fn no_ring(m: usize) -> bool
+    ensures { λ r. ⌜ r ≡ noRing m (m / 2) ⌝ }
+{
+    let n = m / 2;
+    (m % 2 == 1) | ((n < FEWEST_VERTICES) | (MOST_VERTICES < n))
+}
+
 // Where the point (x, y) lies against the ring x0, y0, x1, y1, .. A vertex comes before an edge, a lower index before a
 // higher one, and the closing edge has the last index. A list that makes no ring is refused before a coordinate beyond the grid.
 pub fn locate(ring: &[i32], x: i32, y: i32) -> Located
     ensures { λ r. ⌜ placeOf r ≡ located (now (ring .entry)) x y ⌝ }
 {
     let m = ring.len();
-    let n = m / 2;
-    if (m % 2 == 1) | ((n < FEWEST_VERTICES) | (MOST_VERTICES < n)) {
+    if no_ring(m) {
         return Located::Refused(Refusal::NoRing);
     }
-    if grid::some_beyond(ring) | (grid::beyond(x) | grid::beyond(y)) {
+    if some_beyond(ring) | (beyond(x) | beyond(y)) {
         return Located::Refused(Refusal::BeyondGrid);
     }
-    walk::round(ring, n, Point { x, y })
+    locate_on(ring, m / 2, Point { x, y })
 }

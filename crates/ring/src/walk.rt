@@ -99,7 +99,8 @@ fn settle(w: Walk, n: usize) -> Located
     Located::Off(winding, turns::parity(winding))
 }
 
-pub fn round(ring: &[i32], n: usize, r: Point) -> Located
+// Where r lies against a ring of n vertices; that both are on the grid is for the caller to know.
+pub fn locate_on(ring: &[i32], n: usize, r: Point) -> Located
     requires { ⌜ Ready (now ring) n r ⌝ }
     ensures { λ l. ⌜ placeOf l ≡ locatedOn (vertices (now (ring .entry))) r ⌝ }
 {

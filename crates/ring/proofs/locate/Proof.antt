@@ -10,7 +10,7 @@ use mir.Val.{SFits}
 use mir.Facts.{toZ-ofZ}
 use borrow.Author.Needs.{needs}
 use borrow.Author.Tests.{eqb-false, ltb-false}
-use Rattle.ring.specs.Grid.{point, vertices, beyond, someBeyond}
+use Rattle.ring.specs.Grid.{point, vertices, beyond, someBeyond, noRing}
 use Rattle.ring.specs.Locate.{located, locatedOn}
 use Rattle.ring.specs.Walk.{Ready}
 use Rattle.ring.proofs.Pick.{pick-true, pick-false, neither-left, neither-right}
@@ -18,9 +18,12 @@ use Rattle.ring.proofs.OnGrid.{point-on-grid}
 use Rattle.ring.proofs.locate.Statement.{statement}
 use Rattle.ring.proofs.locate.Tie as tie
 
+no-ring-requires : tie.Need-no-ring-requires
+no-ring-requires c κs = search needs
+
 returns : tie.Need-returns
 unfolding located
-returns c = sym (pick-true (c .if1 .taken) _ _)
+returns c = sym (pick-true (sym (c .before .no-ring .ensures) ∙ c .if1 .taken) _ _)
 
 some-beyond-requires : tie.Need-some-beyond-requires
 some-beyond-requires c κs = search needs
@@ -31,10 +34,14 @@ beyond-requires c κs = search needs
 beyond-requires-2 : tie.Need-beyond-requires-2
 beyond-requires-2 c κs = search needs
 
--- the second test is document 01's
-tested : (c : tie.After-beyond2) → (someBeyond (c .before .before .before .before .args .ring .now) || (beyond (c .before .before .before .before .args .x) || beyond (c .before .before .before .before .args .y))) ≡ (c .before .before .some-beyond .result || (c .before .beyond .result || c .beyond2 .result))
+-- the first test is document 01's
+a-ring : (c : tie.Else1) → noRing (length (c .before .before .args .ring .now)) (length (c .before .before .args .ring .now) / 2) ≡ false
+a-ring c = sym (c .before .no-ring .ensures) ∙ c .if1 .left
+
+-- and so is the second
+tested : (c : tie.After-beyond2) → (someBeyond (c .before .before .before .before .before .args .ring .now) || (beyond (c .before .before .before .before .before .args .x) || beyond (c .before .before .before .before .before .args .y))) ≡ (c .before .before .some-beyond .result || (c .before .beyond .result || c .beyond2 .result))
 tested c =
-    let start = c .before .before .before .before in
+    let start = c .before .before .before .before .before in
     let x = c .before .beyond .ensures ∙ ap beyond (toZ-ofZ (start .fits .x)) in
     let y = c .beyond2 .ensures ∙ ap beyond (toZ-ofZ (start .fits .y)) in
     sym (λ i. c .before .before .some-beyond .ensures i || (x i || y i))
@@ -43,14 +50,14 @@ returns-2 : tie.Need-returns-2
 unfolding located
 returns-2 c =
     let second = c .before in
-    sym (pick-false (second .before .before .before .if1 .left) _ _ ∙ pick-true (tested second ∙ c .if2 .taken) _ _)
+    sym (pick-false (a-ring (second .before .before .before)) _ _ ∙ pick-true (tested second ∙ c .if2 .taken) _ _)
 
-round-requires : tie.Need-round-requires
-round-requires c κs =
-    let start = c .before .before .before .before .before in
+locate-on-requires : tie.Need-locate-on-requires
+locate-on-requires c κs =
+    let start = c .before .before .before .before .before .before in
     let xs = start .args .ring .now in
     let m = length xs in
-    let a = c .before .before .before .before .if1 .left in
+    let a = a-ring (c .before .before .before .before) in
     let b = tested (c .before) ∙ c .if2 .left in
     let p = neither-right (someBeyond xs) _ b in
     let odd = eqb-false (m % 2) 1 (neither-left (eqb (m % 2) 1) _ a) in
@@ -69,19 +76,20 @@ returns-3 : tie.Need-returns-3
 unfolding located
 returns-3 c =
     let second = c .before .before in
-    let start = second .before .before .before .before in
-    c .round .ensures
+    let start = second .before .before .before .before .before in
+    c .locate-on .ensures
     ∙ (λ i. locatedOn (vertices (start .args .ring .now)) (point (toZ-ofZ (start .fits .x) i) (toZ-ofZ (start .fits .y) i)))
-    ∙ sym (pick-false (second .before .before .before .if1 .left) _ _ ∙ pick-false (tested second ∙ c .before .if2 .left) _ _)
+    ∙ sym (pick-false (a-ring (second .before .before .before)) _ _ ∙ pick-false (tested second ∙ c .before .if2 .left) _ _)
 
 pub locate-spec : {M : Type 1} → statement M
 locate-spec =
     tie.close
     (tie.spec
+    no-ring-requires
     returns
     some-beyond-requires
     beyond-requires
     beyond-requires-2
     returns-2
-    round-requires
+    locate-on-requires
     returns-3)

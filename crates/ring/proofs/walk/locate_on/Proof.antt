@@ -1,4 +1,4 @@
--- `ring::walk::round` finds what document 01 asks for. The invariant: the walk has gone along the first i edges (`Walked`).
+-- `ring::walk::locate_on` finds what document 01 asks for. The invariant: the walk has gone along the first i edges (`Walked`).
 -- The measure is the number of edges left. Assumes nothing.
 use Prim.Native.Nat.{ℕ, suc, _%_, _-_, _<_}
 use native.Mathlib.Nat.{mod-lt}
@@ -13,8 +13,8 @@ use Rattle.ring.specs.Locate.{vertex}
 use Rattle.ring.proofs.Vertices.{at-rest, length-vertices}
 use Rattle.ring.proofs.Table.{entry-at}
 use Rattle.ring.proofs.Walks.{Walked, is-here, in-quadrant, standing, walked-none, walked-more, meets, meets-next, walked-all}
-use Rattle.ring.proofs.walk.round.Statement.{statement}
-use Rattle.ring.proofs.walk.round.Tie as tie
+use Rattle.ring.proofs.walk.locate_on.Statement.{statement}
+use Rattle.ring.proofs.walk.locate_on.Tie as tie
 
 abbrev Inv-loop : tie.InvT-loop
 Inv-loop ring n r start walk₀ table i₀ walk i = Walked (vertices ring) r n i walk
@@ -160,8 +160,8 @@ returns-3 c =
     let all : turn .loop .i ≡ n = omega (arith, turn .loop .inv .le, c .before .loop-test .left) in
     c .settle .ensures ∙ walked-all P (start .args .r) n (size start) (turn .loop .walk) (subst (λ (i : ℕ). Walked P (start .args .r) n i (turn .loop .walk)) all (turn .loop .inv))
 
-pub round-spec : {M : Type 1} → statement M
-round-spec =
+pub locate-on-spec : {M : Type 1} → statement M
+locate-on-spec =
     tie.close
     (tie.spec
     Inv-loop
