@@ -1,0 +1,53 @@
+-- Tests and sums over the numbers below a bound: the steps that a loop takes. Assumes nothing.
+use Prim.Native.Nat.{ℕ, zero, suc, _+_, _≤_, _<_}
+use native.Mathlib.Numerals.{add-one}
+use native.Mathlib.Decide.{ℕ-discrete}
+use native.Mathlib.Omega.{arith}
+use mathlib.Core.Path.{_≡_, refl, sym, ap, subst, _∙_}
+use mathlib.Core.Bool.{Bool, true, false, _&&_}
+use Rattle.districts.proofs.Tests.{both-left, both-right}
+use Rattle.districts.specs.Counts.{allTo, sumTo}
+
+pub all-none : (p : ℕ → Bool) → true ≡ allTo 0 p
+unfolding allTo
+all-none p = refl
+
+pub all-more : (p : ℕ → Bool) (n : ℕ) (good b : Bool) → good ≡ allTo n p → b ≡ p n → (good && b) ≡ allTo (n + 1) p
+unfolding allTo
+all-more p n good b e f = (λ i. e i && f i) ∙ ap (λ k. allTo k p) (sym (add-one n))
+
+-- d has come to the bound
+pub all-end : (p : ℕ → Bool) (n d : ℕ) (good : Bool) → good ≡ allTo d p → d ≤ n → n ≤ d → good ≡ allTo n p
+all-end p n d good e h k = let same : d ≡ n = omega arith in subst (λ (m : ℕ). good ≡ allTo m p) same e
+
+-- a test that passes everywhere
+pub all-pass : (p : ℕ → Bool) (n : ℕ) → ((k : ℕ) → k < n → p k ≡ true) → allTo n p ≡ true
+unfolding allTo
+all-pass p zero f = refl
+all-pass p (suc n) f = (λ i. all-pass p n (λ k h. f k (omega arith)) i && f n (omega arith) i)
+
+-- what a test of all tells of each
+pub all-each : (p : ℕ → Bool) (n : ℕ) → allTo n p ≡ true → (k : ℕ) → k < n → p k ≡ true
+unfolding allTo
+all-each p zero e k h = absurd (let f : ⊥ = omega arith in f)
+all-each p (suc n) e k h = elim (ℕ-discrete k n) [ yes same ↦ ap p same ∙ both-right (allTo n p) (p n) e | no other ↦ all-each p n (both-left (allTo n p) (p n) e) k (omega arith) ]
+
+pub sum-none : (f : ℕ → ℕ) → 0 ≡ sumTo 0 f
+unfolding sumTo
+sum-none f = refl
+
+pub sum-more : (f : ℕ → ℕ) (n s k : ℕ) → s ≡ sumTo n f → k ≡ f n → s + k ≡ sumTo (n + 1) f
+unfolding sumTo
+sum-more f n s k e d = (λ i. e i + d i) ∙ ap (λ m. sumTo m f) (sym (add-one n))
+
+pub sum-end : (f : ℕ → ℕ) (n d s : ℕ) → s ≡ sumTo d f → d ≤ n → n ≤ d → s ≡ sumTo n f
+sum-end f n d s e h k = let same : d ≡ n = omega arith in subst (λ (m : ℕ). s ≡ sumTo m f) same e
+
+-- a term is at most the sum
+pub term-most : (f : ℕ → ℕ) (n k : ℕ) → k < n → f k ≤ sumTo n f
+unfolding sumTo
+term-most f zero k h = absurd (let g : ⊥ = omega arith in g)
+term-most f (suc n) k h = elim (ℕ-discrete k n) [
+  | yes same ↦ subst (λ (m : ℕ). f m ≤ sumTo n f + f n) (sym same) (omega arith)
+  | no other ↦ let t : f k ≤ sumTo n f = term-most f n k (omega arith) in omega arith
+]

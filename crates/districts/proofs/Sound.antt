@@ -1,0 +1,100 @@
+-- What a well-formed register keeps, fact by fact. Assumes nothing.
+use Prim.Native.Nat.{ℕ, _+_, _≤_, _<_}
+use native.Mathlib.Omega.{arith}
+use mathlib.Core.Path.{_≡_, refl, sym, _∙_}
+use mathlib.Core.Bool.{Bool, true, false, not, _&&_, _||_}
+use mathlib.Core.List.{List}
+use mathlib.Core.Logic.{_⊎_, inl, inr}
+use lib.Dec.{eqb, leb}
+use lib.IntN.{ℤ}
+use lib.ListN.{length}
+use borrow.Author.Tests.{eqb-true, leb-true, not-true}
+use Rattle.ring.specs.Grid.{someBeyond}
+use Rattle.districts.specs.Counts.{allTo}
+use Rattle.districts.specs.Lists.{outlineSize, firstPlace, size, part}
+use Rattle.districts.specs.WellFormed.{shaped, sized, total, inside, apart, packed, counted, onGrid, wellFormed}
+use Rattle.districts.proofs.Tests.{both-left, both-right}
+use Rattle.districts.proofs.Counting.{all-each}
+
+either : (a b : Bool) → (a || b) ≡ true → (a ≡ true) ⊎ (b ≡ true)
+either true b e = inl refl
+either false b e = inr e
+
+-- none, or 3 to 2,048
+pub allowed-size : (n : ℕ) → sized n ≡ true → (n ≡ 0) ⊎ ((3 ≤ n) × (n ≤ 2048))
+allowed-size n e = say (either (eqb n 0) (leb 3 n && leb n 2048) e)
+  where
+    say : (eqb n 0 ≡ true) ⊎ ((leb 3 n && leb n 2048) ≡ true) → (n ≡ 0) ⊎ ((3 ≤ n) × (n ≤ 2048))
+    say (inl f) = inl (eqb-true n 0 f)
+    say (inr f) = inr (leb-true 3 n (both-left (leb 3 n) (leb n 2048) f), leb-true n 2048 (both-right (leb 3 n) (leb n 2048) f))
+
+pub size-most : (n : ℕ) → sized n ≡ true → n ≤ 2048
+size-most n e = say (allowed-size n e)
+  where
+    say : (n ≡ 0) ⊎ ((3 ≤ n) × (n ≤ 2048)) → n ≤ 2048
+    say (inl f) = omega arith
+    say (inr f) = f .1
+
+-- the counts
+module _ (runs : List ℕ) (e : counted runs ≡ true) where
+  pub outline-sized : sized (outlineSize runs) ≡ true
+  outline-sized = both-left (sized (outlineSize runs)) _ (both-left (sized (outlineSize runs) && allTo 64 (λ d. sized (size runs d))) _ e)
+
+  pub district-sized : (d : ℕ) → d < 64 → sized (size runs d) ≡ true
+  district-sized = all-each (λ d. sized (size runs d)) 64 (both-right (sized (outlineSize runs)) _ (both-left (sized (outlineSize runs) && allTo 64 (λ d. sized (size runs d))) _ e))
+
+  limits : (leb (total runs) 2048 && (leb 1 (outlineSize runs) || eqb (total runs) 0)) ≡ true
+  limits = both-right (sized (outlineSize runs) && allTo 64 (λ d. sized (size runs d))) _ e
+
+  pub total-most : total runs ≤ 2048
+  total-most = leb-true (total runs) 2048 (both-left (leb (total runs) 2048) _ limits)
+
+  -- without an outline there is no district
+  pub none-without : outlineSize runs ≡ 0 → total runs ≡ 0
+  none-without f = say (either (leb 1 (outlineSize runs)) (eqb (total runs) 0) (both-right (leb (total runs) 2048) _ limits))
+    where
+      say : (leb 1 (outlineSize runs) ≡ true) ⊎ (eqb (total runs) 0 ≡ true) → total runs ≡ 0
+      say (inl g) = absurd (let h : 1 ≤ outlineSize runs = leb-true 1 (outlineSize runs) g in omega arith)
+      say (inr g) = eqb-true (total runs) 0 g
+
+-- the whole
+module _ (outline store : List ℤ) (runs : List ℕ) (e : wellFormed outline store runs ≡ true) where
+  pub right-shape : shaped outline store runs ≡ true
+  unfolding wellFormed
+  right-shape = both-left (shaped outline store runs) _ e
+
+  rest : (counted runs && (packed runs && onGrid outline store runs)) ≡ true
+  unfolding wellFormed
+  rest = both-right (shaped outline store runs) _ e
+
+  pub outline-length : length outline ≡ 4096
+  outline-length = eqb-true (length outline) 4096 (both-left (eqb (length outline) 4096) _ right-shape)
+
+  pub store-length : length store ≡ 4096
+  store-length = eqb-true (length store) 4096 (both-left (eqb (length store) 4096) _ (both-right (eqb (length outline) 4096) _ right-shape))
+
+  pub runs-length : length runs ≡ 129
+  runs-length = eqb-true (length runs) 129 (both-right (eqb (length store) 4096) _ (both-right (eqb (length outline) 4096) _ right-shape))
+
+  pub right-counts : counted runs ≡ true
+  right-counts = both-left (counted runs) _ rest
+
+  pub right-packing : packed runs ≡ true
+  right-packing = both-left (packed runs) _ (both-right (counted runs) _ rest)
+
+  -- a district's run ends within the used part of the store
+  pub run-inside : (d : ℕ) → d < 64 → 0 < size runs d → firstPlace runs d + size runs d ≤ total runs
+  run-inside d h k = say (either (eqb (size runs d) 0) (leb (firstPlace runs d + size runs d) (total runs)) (all-each (inside runs (total runs)) 64 (both-left (allTo 64 (inside runs (total runs))) _ right-packing) d h))
+    where
+      say : (eqb (size runs d) 0 ≡ true) ⊎ (leb (firstPlace runs d + size runs d) (total runs) ≡ true) → firstPlace runs d + size runs d ≤ total runs
+      say (inl f) = absurd (let g : size runs d ≡ 0 = eqb-true (size runs d) 0 f in omega arith)
+      say (inr f) = leb-true (firstPlace runs d + size runs d) (total runs) f
+
+  grid : (not (someBeyond (part outline 0 (outlineSize runs))) && not (someBeyond (part store 0 (total runs)))) ≡ true
+  grid = both-right (packed runs) _ (both-right (counted runs) _ rest)
+
+  pub outline-on-grid : someBeyond (part outline 0 (outlineSize runs)) ≡ false
+  outline-on-grid = not-true _ (both-left (not (someBeyond (part outline 0 (outlineSize runs)))) _ grid)
+
+  pub store-on-grid : someBeyond (part store 0 (total runs)) ≡ false
+  store-on-grid = not-true _ (both-right (not (someBeyond (part outline 0 (outlineSize runs)))) _ grid)

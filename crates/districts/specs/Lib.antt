@@ -1,0 +1,5 @@
+pub mod Counts
+pub mod Register
+pub mod Lists
+pub mod WellFormed
+pub mod Answers

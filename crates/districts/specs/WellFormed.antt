@@ -1,0 +1,48 @@
+-- Document 01's well-formed register, asked of the three lists. What stands in the free room is not asked. Assumes nothing.
+use Prim.Native.Nat.{ℕ, _+_}
+use mathlib.Core.Bool.{Bool, not, _&&_, _||_}
+use mathlib.Core.List.{List}
+use lib.Dec.{eqb, leb}
+use lib.IntN.{ℤ}
+use lib.ListN.{length}
+use Rattle.ring.specs.Grid.{someBeyond}
+use Rattle.districts.specs.Counts.{allTo, sumTo}
+use Rattle.districts.specs.Register.{numbers}
+use Rattle.districts.specs.Lists.{outlineSize, firstPlace, size, part}
+
+-- the lists are as long as a register's are
+abbrev pub shaped : List ℤ → List ℤ → List ℕ → Bool
+shaped outline store runs = eqb (length outline) 4096 && (eqb (length store) 4096 && eqb (length runs) 129)
+
+-- none, or a ring of 3 to 2,048 vertices
+abbrev pub sized : ℕ → Bool
+sized n = eqb n 0 || (leb 3 n && leb n 2048)
+
+-- how many vertices all districts have
+abbrev pub total : List ℕ → ℕ
+total runs = sumTo numbers (size runs)
+
+-- district d is unused, or its run ends within the first places of the store, as many as all districts have vertices
+abbrev pub inside : List ℕ → ℕ → ℕ → Bool
+inside runs all d = eqb (size runs d) 0 || leb (firstPlace runs d + size runs d) all
+
+-- one of the two is unused, or one's run ends where the other's begins or before
+abbrev pub apart : List ℕ → ℕ → ℕ → Bool
+apart runs d e =
+    (eqb (size runs d) 0 || eqb (size runs e) 0)
+    || (leb (firstPlace runs d + size runs d) (firstPlace runs e) || leb (firstPlace runs e + size runs e) (firstPlace runs d))
+
+-- all runs lie within as many places as they need together, and no two overlap: so there is no gap either
+abbrev pub packed : List ℕ → Bool
+packed runs = allTo numbers (inside runs (total runs)) && allTo numbers (λ d. allTo d (λ e. apart runs d e))
+
+-- the sizes are allowed, all districts have at most 2,048 vertices, and there are none without an outline
+abbrev pub counted : List ℕ → Bool
+counted runs = (sized (outlineSize runs) && allTo numbers (λ d. sized (size runs d))) && (leb (total runs) 2048 && (leb 1 (outlineSize runs) || eqb (total runs) 0))
+
+-- every coordinate of the outline and of the districts is on the grid
+abbrev pub onGrid : List ℤ → List ℤ → List ℕ → Bool
+onGrid outline store runs = not (someBeyond (part outline 0 (outlineSize runs))) && not (someBeyond (part store 0 (total runs)))
+
+unfoldable pub wellFormed : List ℤ → List ℤ → List ℕ → Bool
+wellFormed outline store runs = shaped outline store runs && (counted runs && (packed runs && onGrid outline store runs))
