@@ -3,7 +3,9 @@ use Prim.Native.Nat.{ℕ, zero, suc, _+_, _≤_, _<_}
 use native.Mathlib.Omega.{arith}
 use native.Mathlib.Decide.{ℕ-discrete}
 use mathlib.Core.Path.{_≡_, refl, sym, _∙_, subst}
-use mathlib.Core.Bool.{Bool, true, false, true≢false}
+use mathlib.Core.Bool.{Bool, true, false, _&&_, true≢false}
+use lib.Dec.{leb}
+use borrow.Author.Tests.{leb-true, leb-false}
 use Rattle.ring.specs.Grid.{pick}
 use Rattle.ring.specs.Locate.{lowest}
 use Rattle.ring.proofs.Pick.{pick-true, pick-false}
@@ -68,3 +70,46 @@ lowest-all p k i e = let l : Lowest p k i (i + k) = subst (Lowest p k i) e (lowe
 -- a search from 0 that came to the end found nothing
 pub lowest-over : (p : ℕ → Bool) (n : ℕ) → n ≤ lowest p n 0 → (j : ℕ) → j < n → p j ≡ false
 lowest-over p n h j g = lowest-all p n 0 (omega (arith, lowest-most p n 0)) j (omega arith) (omega arith)
+
+-- ---- a search that goes on to the end and notes the lowest hit
+
+-- e is the lowest of the indices below i that passes, or n where none of them does
+pub record Noted (p : ℕ → Bool) (n i e : ℕ) : Type 0 where
+  pub most : e ≤ n
+  pub before : (j : ℕ) → j < i → j < e → p j ≡ false
+  pub passed : e < n → e < i
+  pub holds : e < n → p e ≡ true
+
+pub noted-none : (p : ℕ → Bool) (n : ℕ) → Noted p n 0 n
+noted-none p n = record { most = omega arith; before = λ j l. absurd (omega arith); passed = λ l. absurd (omega arith); holds = λ l. absurd (omega arith) }
+
+-- what is noted stays, unless i is lower and passes
+pub noted-kept : (p : ℕ → Bool) (n i e : ℕ) → (i < e → p i ≡ false) → Noted p n i e → Noted p n (suc i) e
+noted-kept p n i e f d = record {
+  most = d .most;
+  before = λ j h k. elim (ℕ-discrete i j) [ yes s ↦ subst (λ (m : ℕ). p m ≡ false) s (f (omega arith)) | no s ↦ d .before j (omega arith) k ];
+  passed = λ h. let k : e < i = d .passed h in omega arith;
+  holds = d .holds;
+}
+
+-- i is noted if it passes and none was noted before
+pub noted-more : (p : ℕ → Bool) (n i e : ℕ) → i < n → Noted p n i e → Noted p n (suc i) (pick (p i && leb n e) i e)
+noted-more p n i e h d = step (p i) refl (leb n e) refl
+  where
+    step : (met : Bool) → p i ≡ met → (none : Bool) → leb n e ≡ none → Noted p n (suc i) (pick (met && none) i e)
+    step true s true l =
+        let k : n ≤ e = leb-true n e l in
+        record { most = omega arith; before = λ j f g. d .before j g (omega arith); passed = λ f. omega arith; holds = λ f. s }
+    step true s false l =
+        let k : e < n = leb-false n e l in
+        let g : e < i = d .passed k in
+        noted-kept p n i e (λ f. absurd (omega arith)) d
+    step false s none l = noted-kept p n i e (λ f. s) d
+
+pub noted-all : (p : ℕ → Bool) (n e : ℕ) → Noted p n n e → lowest p n 0 ≡ e
+noted-all p n e d = lowest-unique p n 0 (lowest p n 0) e (lowest-holds p n 0) (record {
+  least = omega arith;
+  most = let k : e ≤ n = d .most in omega arith;
+  before = λ j g h. let k : e ≤ n = d .most in d .before j (omega arith) h;
+  passes = λ h. d .holds (omega arith);
+})

@@ -25,14 +25,7 @@ use Rattle.ring.specs.Walk.{Stands, Gone}
 use Rattle.ring.proofs.Pick.{pick-true, pick-false}
 use Rattle.ring.proofs.Vertices.{at-end}
 use Rattle.ring.proofs.Quadrants.{same-quadrant, quadrant-most, turns-few}
-use Rattle.ring.proofs.Search.{lowest-none, lowest-first, lowest-unique, lowest-holds}
-
--- e is the lowest of the first i edges that holds R, or n where none of them does
-pub record Noted (P : List Point) (R : Point) (n i e : ℕ) : Type 0 where
-  pub most : e ≤ n
-  pub before : (j : ℕ) → j < i → j < e → onEdge P R j ≡ false
-  pub passed : e < n → e < i
-  pub holds : e < n → onEdge P R e ≡ true
+use Rattle.ring.proofs.Search.{lowest-none, lowest-first, Noted, noted-none, noted-more, noted-all}
 
 -- the walk has met none of the vertices up to i, has turned as the first i edges do, and has noted the lowest edge among them
 pub record Walked (P : List Point) (R : Point) (n i : ℕ) (w : Walk) : Type 0 where
@@ -41,7 +34,7 @@ pub record Walked (P : List Point) (R : Point) (n i : ℕ) (w : Walk) : Type 0 w
   pub away : (k : ℕ) → k ≤ i → same R (at P k) ≡ false
   pub turned : w .turned .0 ≡ total (quarterTurns R) (at P) i
   pub few : natAbs (w .turned .0) ≤ i + i
-  pub noted : Noted P R n i (w .edge)
+  pub noted : Noted (onEdge P R) n i (w .edge)
 
 -- a vertex is R exactly if it is in no quadrant
 pub not-here : (R P : Point) (q : ℕ) → q ≡ quadrant R P → (q ≡ 4 → ⊥) → same R P ≡ false
@@ -70,34 +63,8 @@ module _ (P : List Point) (R : Point) (n : ℕ) where
     away = λ k l. subst (λ (m : ℕ). same R (at P m) ≡ false) (let z : 0 ≡ k = omega arith in z) (not-here R (at P 0) (w .quadrant) e h);
     turned = t;
     few = rw t (omega arith);
-    noted = record { most = omega arith; before = λ j l. absurd (omega arith); passed = λ l. absurd (omega arith); holds = λ l. absurd (omega arith) };
+    noted = subst (Noted (onEdge P R) n 0) (sym d) (noted-none (onEdge P R) n);
   }
-
-  -- the edge that is noted stays, unless edge i is lower and holds R
-  kept : (i e : ℕ) → (i < e → onEdge P R i ≡ false) → Noted P R n i e → Noted P R n (suc i) e
-  kept i e f d = record {
-    most = d .most;
-    before = λ j h k. elim (ℕ-discrete i j) [
-      | yes s ↦ subst (λ (m : ℕ). onEdge P R m ≡ false) s (f (omega arith))
-      | no s ↦ d .before j (omega arith) k
-    ];
-    passed = λ h. let k : e < i = d .passed h in omega arith;
-    holds = d .holds;
-  }
-
-  -- edge i is noted if it holds R and none was noted before
-  noted-more : (i e : ℕ) → i < n → Noted P R n i e → Noted P R n (suc i) (pick (onEdge P R i && leb n e) i e)
-  noted-more i e h d = step (onEdge P R i) refl (leb n e) refl
-    where
-      step : (met : Bool) → onEdge P R i ≡ met → (none : Bool) → leb n e ≡ none → Noted P R n (suc i) (pick (met && none) i e)
-      step true s true l =
-          let k : n ≤ e = leb-true n e l in
-          record { most = omega arith; before = λ j f g. d .before j g (omega arith); passed = λ f. omega arith; holds = λ f. s }
-      step true s false l =
-          let k : e < n = leb-false n e l in
-          let g : e < i = d .passed k in
-          kept i e (λ f. absurd (omega arith)) d
-      step false s none l = kept i e (λ f. s) d
 
   pub walked-more : (i q : ℕ) (w v : Walk) → i < n → Walked P R n i w → q ≡ quadrant R (at P (suc i)) → (q ≡ 4 → ⊥)
       → Gone n i q (quarterTurns R (at P i) (at P (suc i))) (onEdge P R i) w v → Walked P R n (i + 1) v
@@ -114,7 +81,7 @@ module _ (P : List Point) (R : Point) (n : ℕ) where
         few =
             let t = quarterTurns R (at P i) (at P (suc i)) in
             rw (g .turned) (omega (arith, natAbs-add (w .turned .0) t, turns-few R (at P i) (at P (suc i)), l .few));
-        noted = rw (g .edge) (noted-more i (w .edge) h (l .noted));
+        noted = rw (g .edge) (noted-more (onEdge P R) n i (w .edge) h (l .noted));
       })
 
   module _ (size : length P ≡ n) where
@@ -140,11 +107,6 @@ module _ (P : List Point) (R : Point) (n : ℕ) where
     unfolding locatedOn winding ringSum
     walked-all w l =
         let v : lowest (atVertex P R) (length P) 0 ≡ n = lowest-none (atVertex P R) (length P) 0 (λ j g h. l .away j (omega arith)) ∙ zero-add (length P) ∙ size in
-        let e : lowest (onEdge P R) n 0 ≡ w .edge = lowest-unique (onEdge P R) n 0 (lowest (onEdge P R) n 0) (w .edge) (lowest-holds (onEdge P R) n 0) (record {
-          least = omega arith;
-          most = let k : w .edge ≤ n = l .noted .most in omega arith;
-          before = λ j g h. let k : w .edge ≤ n = l .noted .most in l .noted .before j (omega arith) h;
-          passes = λ h. l .noted .holds (omega arith);
-        }) in
+        let e : lowest (onEdge P R) n 0 ≡ w .edge = noted-all (onEdge P R) n (w .edge) (l .noted) in
         let t : total (quarterTurns R) (at P) (length P) ≡ w .turned .0 = ap (total (quarterTurns R) (at P)) size ∙ sym (l .turned) in
         sym (λ i. choose (size i) (v i) ((ap (λ m. lowest (onEdge P R) m 0) size ∙ e) i) (quotZ (t i) (pos 4)))
