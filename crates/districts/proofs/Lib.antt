@@ -1,3 +1,4 @@
 pub mod Tests
 pub mod Counting
 pub mod Sound
+pub mod Meaning

@@ -1,0 +1,5 @@
+pub mod Runs
+pub mod Sorts
+pub mod Rooms
+pub mod Verdicts
+pub mod Founds

@@ -1,0 +1,143 @@
+-- `register::founding::found` writes where nothing is refused, and otherwise leaves the lists. Assumes nothing.
+use Prim.Native.Nat.{ℕ, _≤_, _/_}
+use native.Mathlib.Omega.{arith}
+use mathlib.Core.Path.{_≡_, refl, sym, ap, subst, _∙_}
+use mathlib.Core.Bool.{true, false, not}
+use mathlib.Core.List.{List}
+use lib.IntN.{ℤ}
+use lib.ListN.{length}
+use borrow.Author.Needs.{needs}
+use borrow.Author.Tests.{eqb-true, not-true, not-false}
+use Rattle.ring.specs.Grid.{noRing, someBeyond}
+use Rattle.districts.specs.Lists.{outlineSize}
+use Rattle.districts.proofs.Sound.{outline-length, store-length, runs-length}
+use Rattle.districts.specs.declared.Refusal.{Refusal}
+use Rattle.register.specs.declared.Founded.{Founded}
+use Rattle.register.specs.declared.Founded.the-variants.{Refused}
+use Rattle.register.specs.Verdict.{accept, verdict}
+use Rattle.register.specs.Founding.{foundTests, founded}
+use Rattle.register.specs.Calls.{verdictOf, Lists, formed, means, Leaves, Wrote, FoundBy}
+use Rattle.register.proofs.Rooms.{outline-in-use}
+use Rattle.register.proofs.Verdicts.{accepted}
+use Rattle.register.proofs.Founds.{left-well-formed, left-meaning, room-for}
+use Rattle.register.proofs.founding.found.Statement.{statement}
+use Rattle.register.proofs.founding.found.Tie as tie
+
+abbrev lent : tie.Start → Lists
+lent s = record { outline = s .args .outline .now; store = s .args .store .now; runs = s .args .runs .now }
+
+-- what an acceptance tells
+record Free (l : Lists) (xs : List ℤ) : Type 0 where
+  good : formed l ≡ true
+  none : outlineSize (l .runs) ≡ 0
+  a-ring : noRing (length xs) (length xs / 2) ≡ false
+  grid : someBeyond xs ≡ false
+
+free : (l : Lists) (xs : List ℤ) → verdict (foundTests (formed l) (means l) xs) ≡ accept → Free l xs
+free l xs e =
+    let first = accepted 1 _ _ e in
+    let second = accepted 3 _ _ (first .1) in
+    let third = accepted 4 _ _ (second .1) in
+    let fourth = accepted 5 _ _ (third .1) in
+    record {
+      good = not-false _ (first .0);
+      none = eqb-true (outlineSize (l .runs)) 0 (not-false _ (sym (outline-in-use (l .outline) (l .store) (l .runs)) ∙ second .0));
+      a-ring = third .0;
+      grid = fourth .0;
+    }
+
+-- the two outcomes
+wrote-all : (r : Founded) (xs : List ℤ) (l after : Lists) → Free l xs → verdict (foundTests (formed l) (means l) xs) ≡ accept → Wrote r xs l after → FoundBy r xs l after
+wrote-all r xs l after f e w =
+    let lists = w .1 in
+    record {
+      said = ap verdictOf (w .0) ∙ sym e;
+      left = subst (λ v. Leaves v (founded xs) l after) (sym (ap verdictOf (w .0))) (
+        ap formed lists ∙ left-well-formed (l .outline) (l .store) (l .runs) xs (f .good) (f .none) (f .a-ring) (f .grid),
+        ap means lists ∙ left-meaning (l .outline) (l .store) (l .runs) xs (f .good) (f .none) (f .a-ring) (f .grid),
+      );
+    }
+
+left-all : (r : Founded) (q : Refusal) (xs : List ℤ) (l : Lists) → r ≡ Refused q → verdictOf r ≡ verdict (foundTests (formed l) (means l) xs) → FoundBy r xs l l
+left-all r q xs l e v = record { said = v; left = subst (λ w. Leaves w (founded xs) l l) (sym (ap verdictOf e)) refl }
+
+judged-free : (c : tie.After-enum-told) → Free (lent (c .before .before .before .before .before .before .before)) (c .before .before .before .before .before .before .before .args .ring .now)
+judged-free c =
+    let judged = c .before .before in
+    let start = judged .before .before .before .before .before in
+    free (lent start) (start .args .ring .now) (sym (judged .judged .ensures) ∙ ap verdictOf (c .enum-told .given .1))
+
+judged-requires : tie.Need-judged-requires
+judged-requires c κs = search needs
+
+enum-told : tie.Need-enum-told
+enum-told c = search needs
+
+write-requires : tie.Need-write-requires
+write-requires c κs =
+    let told = c .before .before .before in
+    let start = told .before .before .before .before .before .before .before in
+    let l = lent start in
+    let f = judged-free told in
+    let room = room-for (l .outline) (l .store) (l .runs) (start .args .ring .now) (f .good) (f .none) (f .a-ring) (f .grid) in (
+      omega (arith, room, outline-length (l .outline) (l .store) (l .runs) (f .good)),
+      (
+        omega (arith, room, store-length (l .outline) (l .store) (l .runs) (f .good)),
+        (
+          runs-length (l .outline) (l .store) (l .runs) (f .good),
+          room .1,
+        ),
+      ),
+    )
+
+enum-told-2 : tie.Need-enum-told-2
+enum-told-2 c = search needs
+
+same-length : tie.Need-same-length
+same-length c = search needs
+
+same-length-2 : tie.Need-same-length-2
+same-length-2 c = search needs
+
+same-length-3 : tie.Need-same-length-3
+same-length-3 c = search needs
+
+returns : tie.Need-returns
+returns c =
+    let wrote = c .before .before .before .before in
+    let told = wrote .before .before .before .before in
+    let judged = told .before .before in
+    let start = judged .before .before .before .before .before in
+    wrote-all _ (start .args .ring .now) (lent start) _ (judged-free told) (sym (judged .judged .ensures) ∙ ap verdictOf (told .enum-told .given .1)) (wrote .write .ensures)
+
+same-length-4 : tie.Need-same-length-4
+same-length-4 c = search needs
+
+same-length-5 : tie.Need-same-length-5
+same-length-5 c = search needs
+
+same-length-6 : tie.Need-same-length-6
+same-length-6 c = search needs
+
+returns-2 : tie.Need-returns-2
+returns-2 c =
+    let judged = c .before .before in
+    let start = judged .before .before .before .before .before in
+    left-all _ _ (start .args .ring .now) (lent start) (c .enum-told2 .given .1) (judged .judged .ensures)
+
+pub found-spec : {M : Type 1} → statement M
+found-spec =
+    tie.close
+    (tie.spec
+    judged-requires
+    enum-told
+    write-requires
+    enum-told-2
+    same-length
+    same-length-2
+    same-length-3
+    returns
+    same-length-4
+    same-length-5
+    same-length-6
+    returns-2)

@@ -1,0 +1,4 @@
+pub mod Verdict
+pub mod Sorting
+pub mod Founding
+pub mod Calls

@@ -1,0 +1,19 @@
+-- Refusals as document 01 orders them: a table of tests, and the first that holds. Assumes nothing.
+use Prim.Native.Nat.{ℕ}
+use mathlib.Core.Bool.{Bool}
+use mathlib.Core.List.{List, [], _∷_}
+use Rattle.ring.specs.Grid.{pick}
+
+-- a refusal's number and its condition
+infix 4 _if_
+pub data Test : Type 0 where
+  _if_ : ℕ → Bool → Test
+
+pub data Verdict : Type 0 where
+  accept : Verdict
+  refuse : ℕ → Verdict
+
+-- a refusal is given exactly when its condition holds and no earlier one does
+unfoldable pub verdict : List Test → Verdict
+verdict [] = accept
+verdict ((n if b) ∷ ts) = pick b (refuse n) (verdict ts)
