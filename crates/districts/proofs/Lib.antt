@@ -2,3 +2,4 @@ pub mod Tests
 pub mod Counting
 pub mod Sound
 pub mod Meaning
+pub mod Unique

@@ -3,3 +3,5 @@ pub mod Sorts
 pub mod Rooms
 pub mod Verdicts
 pub mod Founds
+pub mod Unique
+pub mod Vectors

@@ -1,0 +1,4 @@
+pub mod Raising
+pub mod Sums
+pub mod Totals
+pub mod Unique
