@@ -1,0 +1,46 @@
+-- `some_marked` meets its contract. Its loop needs no invariant: the test bounds `k`. Assumes nothing.
+use Prim.Native.Nat.{_-_}
+use borrow.Author.Needs.{needs}
+use Rattle.second.proofs.packed.some_marked.Statement.{statement}
+use Rattle.second.proofs.packed.some_marked.Tie as tie
+
+abbrev Inv-loop : tie.InvT-loop
+Inv-loop marks from k₀ k = Unit {0}
+
+abbrev μ-loop : tie.MeasureT-loop
+μ-loop marks from k₀ k = 2048 - k
+
+loop-holds : tie.Need-loop-holds Inv-loop μ-loop
+loop-holds c = search needs
+
+shared-slice-read-if1 : tie.Need-shared-slice-read-if1 Inv-loop μ-loop
+shared-slice-read-if1 c = search needs
+
+returns : tie.Need-returns Inv-loop μ-loop
+returns c = search needs
+
+add-k : tie.Need-add-k Inv-loop μ-loop
+add-k c = search needs
+
+loop-less : tie.Need-loop-less Inv-loop μ-loop
+loop-less c = search needs
+
+loop-again : tie.Need-loop-again Inv-loop μ-loop
+loop-again c = search needs
+
+returns-2 : tie.Need-returns-2 Inv-loop μ-loop
+returns-2 c = search needs
+
+pub some-marked-spec : {M : Type 1} → statement M
+some-marked-spec =
+    tie.close
+    (tie.spec
+    Inv-loop
+    μ-loop
+    loop-holds
+    shared-slice-read-if1
+    returns
+    add-k
+    loop-less
+    loop-again
+    returns-2)
