@@ -1,19 +1,19 @@
 -- What a number means, read off the lists; and that what stands in the free room has no meaning. Assumes nothing.
-use Prim.Native.Nat.{ℕ, zero, suc, _+_, _≤_, _<_, _-_}
+use Prim.Native.Nat.{ℕ, zero, suc, _+_, _≤_, _<_}
 use native.Mathlib.Decide.{decLt, ℕ-discrete}
 use native.Mathlib.Omega.{arith}
-use mathlib.Core.Path.{_≡_, refl, sym, ap, subst, _∙_}
-use mathlib.Core.Bool.{Bool, true, false, not, _||_}
+use mathlib.Core.Path.{_≡_, refl, sym, ap, _∙_}
+use mathlib.Core.Bool.{true, false, _||_}
 use mathlib.Core.List.{List, [], _∷_}
 use lib.Dec.{eqb}
 use lib.IntN.{ℤ}
 use lib.ListN.{length, getD, take, drop, List·getD-eq-default}
-use lib.Seq.{take-take, drop-nil, take-nil}
+use lib.Seq.{take-take}
 use borrow.Author.Tests.{eq-eqb, ne-eqb}
 use Rattle.ring.specs.Grid.{pick, beyond, someBeyond, vertices}
 use Rattle.ring.proofs.Pick.{pick-true, pick-false, neither-left, neither-right}
-use Rattle.districts.specs.Counts.{listTo, sumTo}
-use Rattle.districts.specs.Register.{Slot, unused, ring, Register, numbers, slot}
+use Rattle.districts.specs.Counts.{listTo}
+use Rattle.districts.specs.Register.{unused, ring, slot}
 use Rattle.districts.specs.Lists.{outlineSize, firstPlace, size, part, held, district, meaning}
 use Rattle.districts.specs.WellFormed.{total, wellFormed}
 use Rattle.districts.proofs.Sound.{run-inside}

@@ -1,7 +1,7 @@
 -- What a well-formed register keeps, fact by fact. Assumes nothing.
 use Prim.Native.Nat.{ℕ, _+_, _≤_, _<_}
 use native.Mathlib.Omega.{arith}
-use mathlib.Core.Path.{_≡_, refl, sym, _∙_}
+use mathlib.Core.Path.{_≡_, refl}
 use mathlib.Core.Bool.{Bool, true, false, not, _&&_, _||_}
 use mathlib.Core.List.{List}
 use mathlib.Core.Logic.{_⊎_, inl, inr}
@@ -12,7 +12,7 @@ use borrow.Author.Tests.{eqb-true, leb-true, not-true}
 use Rattle.ring.specs.Grid.{someBeyond}
 use Rattle.districts.specs.Counts.{allTo}
 use Rattle.districts.specs.Lists.{outlineSize, firstPlace, size, part}
-use Rattle.districts.specs.WellFormed.{shaped, sized, total, inside, apart, packed, counted, onGrid, wellFormed}
+use Rattle.districts.specs.WellFormed.{shaped, sized, total, inside, packed, counted, onGrid, wellFormed}
 use Rattle.districts.proofs.Tests.{both-left, both-right}
 use Rattle.districts.proofs.Counting.{all-each}
 

@@ -6,7 +6,6 @@ use mathlib.Core.List.{List}
 use lib.Dec.{eqb}
 use lib.IntN.{ℤ}
 use lib.ListN.{getD, take, drop}
-use Rattle.ring.specs.declared.Point.{Point}
 use Rattle.ring.specs.Grid.{pick, vertices}
 use Rattle.districts.specs.Counts.{listTo}
 use Rattle.districts.specs.Register.{Slot, unused, ring, Register, numbers}

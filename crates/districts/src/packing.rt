@@ -2,7 +2,6 @@
 use crate::first_place;
 use crate::size;
 ghost use mathlib.Core.Path.{_≡_};
-ghost use mathlib.Core.Bool.{_&&_};
 ghost use Prim.Native.Nat.{_<_};
 ghost use lib.ListN.{length};
 ghost use Rattle.districts.specs.Counts.{allTo};

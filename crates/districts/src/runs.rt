@@ -1,6 +1,6 @@
 // The list of runs, read: the outline's number of vertices, then the 64 first places, then the 64 numbers of vertices.
 ghost use mathlib.Core.Path.{_≡_};
-ghost use Prim.Native.Nat.{_<_, _≤_, _^_};
+ghost use Prim.Native.Nat.{_<_, _^_};
 ghost use lib.ListN.{length};
 ghost use Rattle.districts.specs.Counts.{allTo};
 ghost use Rattle.districts.specs.Lists.{outlineSize, firstPlace, size as sizeOf};

@@ -1,6 +1,6 @@
 -- The sign of a whole number, equality as a test, and the determinant of two arrows: what the contracts of `exact` and of the crates above it cite. Assumes nothing.
 use Prim.Native.Nat.{zero, suc, _≤_}
-use mathlib.Core.Bool.{Bool, true, false}
+use mathlib.Core.Bool.{Bool, false}
 use lib.Dec.{eqb}
 use lib.IntN.{ℤ, pos, negsuc, natAbs, _-ℤ_, _*ℤ_}
 use Rattle.exact.specs.declared.Arrow.{Arrow}

@@ -1,28 +1,27 @@
 -- The lists after founding: well-formed, with the outline and district 0 of the ring that was given, and no other district. Assumes nothing.
 use Prim.Native.Nat.{ℕ, zero, suc, _+_, _/_, _%_, _≤_, _<_}
 use native.Mathlib.Nat.{zero-add, add-zero}
-use native.Mathlib.Decide.{ℕ-discrete}
 use native.Mathlib.Omega.{arith}
-use mathlib.Core.Path.{_≡_, refl, sym, ap, subst, _∙_}
-use mathlib.Core.Bool.{Bool, true, false, not, _&&_, _||_}
-use mathlib.Core.List.{List, _++_}
+use mathlib.Core.Path.{_≡_, refl, sym, ap, _∙_}
+use mathlib.Core.Bool.{true, false, not, _&&_, _||_}
+use mathlib.Core.List.{List}
 use mathlib.Core.Logic.{_⊎_, inl, inr}
 use lib.Dec.{eqb, leb, ltb, eqb·suc-zero}
 use lib.IntN.{ℤ}
-use lib.ListN.{length, getD, take, drop, set, length-set, length-append, length-drop}
+use lib.ListN.{length, getD, drop, set, length-set, length-append, length-drop}
 use lib.Seq.{take-at, getD-set-same, getD-set-other}
 use borrow.Author.Tests.{eq-eqb, ne-eqb, le-leb, eqb-false, ltb-false}
 use Rattle.ring.specs.Grid.{pick, vertices, noRing, someBeyond}
-use Rattle.ring.proofs.Pick.{pick-true, pick-false, neither-left, neither-right}
+use Rattle.ring.proofs.Pick.{pick-false, neither-left, neither-right}
 use Rattle.districts.specs.Counts.{allTo, sumTo}
-use Rattle.districts.specs.Register.{Slot, unused, ring, Register}
+use Rattle.districts.specs.Register.{unused, ring}
 use Rattle.districts.specs.Lists.{outlineSize, firstPlace, size, part, held, district, meaning}
 use Rattle.districts.specs.WellFormed.{shaped, sized, total, inside, apart, packed, counted, onGrid, wellFormed}
 use Rattle.districts.proofs.Counting.{all-pass, term-most}
 use Rattle.districts.proofs.Sound.{outline-length, store-length, runs-length, right-counts, none-without}
 use Rattle.districts.proofs.Meaning.{unused-when, ring-when, list-same}
 use Rattle.register.specs.Founding.{founded}
-use Rattle.register.specs.Calls.{written, placed, Lists, formed, means}
+use Rattle.register.specs.Calls.{written, placed}
 
 -- a list that starts with xs has xs for its first part
 pub written-part : (xs before : List ℤ) (n : ℕ) → length xs ≡ n + n → part (written xs before) 0 n ≡ xs

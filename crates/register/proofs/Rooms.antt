@@ -1,19 +1,18 @@
 -- What a well-formed register tells the calls. Assumes nothing.
 use Prim.Native.Nat.{ℕ, _+_, _≤_, _<_}
 use native.Mathlib.Omega.{arith}
-use mathlib.Core.Path.{_≡_, refl, sym, ap, fun-ext, _∙_}
+use mathlib.Core.Path.{_≡_, refl, sym}
 use mathlib.Core.Bool.{Bool, true, false, not}
 use mathlib.Core.List.{List}
 use mathlib.Core.Logic.{_⊎_, inl, inr}
 use lib.Dec.{eqb}
 use lib.IntN.{ℤ}
-use lib.ListN.{length}
 use Rattle.ring.specs.declared.Point.{Point}
 use Rattle.ring.specs.Grid.{pick, vertices}
-use Rattle.districts.specs.Register.{Slot, unused, ring, Register}
-use Rattle.districts.specs.Lists.{outlineSize, firstPlace, size, part, held, district, meaning}
+use Rattle.districts.specs.Register.{unused, ring}
+use Rattle.districts.specs.Lists.{outlineSize, firstPlace, size, part, district, meaning}
 use Rattle.districts.specs.WellFormed.{total, counted, wellFormed}
-use Rattle.districts.proofs.Sound.{allowed-size, size-most, district-sized, total-most, right-counts, outline-length, store-length, runs-length, run-inside, store-on-grid}
+use Rattle.districts.proofs.Sound.{allowed-size, size-most, district-sized, total-most, right-counts, store-length, runs-length, run-inside, store-on-grid}
 use Rattle.districts.proofs.Meaning.{slot-is, part-on-grid}
 use Rattle.register.specs.Sorting.{rests, winds, ofSlot, onBorder, windsAbout, sortedBy, belongsTo, inUse}
 use Rattle.register.specs.Calls.{Room}

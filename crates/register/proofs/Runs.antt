@@ -1,18 +1,16 @@
 -- The run of a district: the part of the store that is handed to locating, and that locating may take it. Assumes nothing.
 use Prim.Native.Nat.{ℕ, _+_, _*_, _-_, _≤_, _<_}
 use native.Mathlib.Omega.{arith}
-use mathlib.Core.Path.{_≡_, refl, sym, ap, _∙_}
-use mathlib.Core.Bool.{false}
+use mathlib.Core.Path.{_≡_}
 use mathlib.Core.List.{List}
-use lib.Dec.{eqb}
 use lib.IntN.{ℤ}
 use lib.ListN.{length, take, drop, length-take, length-drop}
 use borrow.Author.Tests.{eq-eqb, ne-eqb}
 use Rattle.ring.specs.declared.Point.{Point}
-use Rattle.ring.specs.Grid.{vertices, someBeyond}
+use Rattle.ring.specs.Grid.{vertices}
 use Rattle.ring.specs.Walk.{OnGrid, Ready}
 use Rattle.ring.proofs.Pick.{pick-true, pick-false}
-use Rattle.districts.specs.Register.{Slot, unused, ring}
+use Rattle.districts.specs.Register.{unused, ring}
 use Rattle.districts.specs.Lists.{firstPlace, size, part, district}
 use Rattle.register.specs.Calls.{Room}
 

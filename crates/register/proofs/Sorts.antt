@@ -1,6 +1,6 @@
 -- What is seen of the numbers below d when a report is sorted, and that it is where the report belongs: at the start, after one number
 -- more, at a border, and when all numbers were seen. Assumes nothing.
-use Prim.Native.Nat.{ℕ, suc, _+_, _≤_, _<_}
+use Prim.Native.Nat.{ℕ, _+_, _≤_, _<_}
 use native.Mathlib.Nat.{zero-add}
 use native.Mathlib.Decide.{ℕ-discrete}
 use native.Mathlib.Numerals.{add-one}

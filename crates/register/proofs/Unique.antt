@@ -7,7 +7,7 @@ use mathlib.Core.List.{List}
 use lib.IntN.{ℤ}
 use Rattle.districts.specs.declared.Assigned.{Assigned}
 use Rattle.districts.specs.Register.{Register}
-use Rattle.districts.specs.Answers.{answerOf, numberOf}
+use Rattle.districts.specs.Answers.{answerOf}
 use Rattle.districts.proofs.Unique.{numberOf-injective, answerOf-injective}
 use Rattle.register.specs.declared.Founded.{Founded}
 use Rattle.register.specs.declared.Founded.the-variants.{Done, Refused}

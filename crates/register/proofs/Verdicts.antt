@@ -10,7 +10,7 @@ use Rattle.ring.proofs.Pick.{pick-true, pick-false}
 use Rattle.districts.specs.Register.{Register}
 use Rattle.districts.specs.Answers as Answers
 use Rattle.districts.specs.Answers.{report}
-use Rattle.register.specs.Verdict.{Test, _if_, Verdict, accept, refuse, verdict}
+use Rattle.register.specs.Verdict.{Test, _if_, accept, refuse, verdict}
 use Rattle.register.specs.Sorting.{belongsTo, assignTests, given, assigned}
 
 pub stops-at : (n : ℕ) (b : Bool) (ts : List Test) → b ≡ true → verdict ((n if b) ∷ ts) ≡ refuse n

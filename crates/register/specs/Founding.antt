@@ -1,5 +1,5 @@
 -- Document 01, "Founding": the outline is stored, and district 0 made with the same ring. Assumes nothing.
-use Prim.Native.Nat.{ℕ, _/_}
+use Prim.Native.Nat.{_/_}
 use mathlib.Core.Bool.{Bool, not}
 use mathlib.Core.List.{List, [], _∷_}
 use lib.Dec.{eqb}
@@ -7,7 +7,7 @@ use lib.IntN.{ℤ}
 use lib.ListN.{length}
 use Rattle.ring.specs.Grid.{pick, noRing, someBeyond, vertices}
 use Rattle.districts.specs.Counts.{listTo}
-use Rattle.districts.specs.Register.{Slot, unused, ring, Register, numbers}
+use Rattle.districts.specs.Register.{unused, ring, Register, numbers}
 use Rattle.register.specs.Verdict.{Test, _if_}
 use Rattle.register.specs.Sorting.{inUse}
 

@@ -1,28 +1,26 @@
 -- What a walk that has gone along the first i edges of a ring has found, and that it is what document 01 asks for: at the start,
 -- after one edge more, when it meets a vertex, and when it has gone all the way round. Assumes nothing.
-use Prim.Native.Nat.{ℕ, zero, suc, _+_, _%_, _≤_, _<_}
-use native.Mathlib.Decide.{decLt, ℕ-discrete}
+use Prim.Native.Nat.{ℕ, suc, _+_, _%_, _≤_, _<_}
+use native.Mathlib.Decide.{ℕ-discrete}
 use native.Mathlib.Nat.{zero-add, mod-eq-of-lt}
 use native.Mathlib.Numerals.{add-one}
 use native.Mathlib.Omega.{arith}
-use mathlib.Core.Path.{_≡_, refl, sym, ap, subst, _∙_}
-use mathlib.Core.Bool.{Bool, true, false, _&&_, true≢false}
+use mathlib.Core.Path.{_≡_, sym, ap, subst, _∙_}
+use mathlib.Core.Bool.{true, false, true≢false}
 use mathlib.Core.List.{List}
-use lib.Dec.{leb, ltb, eqb}
-use lib.IntN.{ℤ, pos, natAbs, _+ℤ_}
+use lib.IntN.{pos, natAbs, _+ℤ_}
 use lib.ListN.{length}
 use lib.Signed.{quotZ}
-use borrow.Author.Tests.{lt-ltb, le-leb, leb-true, leb-false, eq-eqb, ne-eqb, eqb-true}
+use borrow.Author.Tests.{lt-ltb, eq-eqb, ne-eqb}
 use Rattle.exact.proofs.Bounds.{natAbs-add}
 use Rattle.ring.specs.declared.Point.{Point}
 use Rattle.ring.specs.declared.walk.Walk.{Walk}
-use Rattle.ring.specs.Grid.{pick}
 use Rattle.ring.specs.Rings.{at, total, ringSum}
 use Rattle.ring.specs.Segment.{same}
 use Rattle.ring.specs.Turns.{quadrant, quarterTurns, winding}
-use Rattle.ring.specs.Locate.{Place, vertex, edge, lowest, atVertex, onEdge, choose, locatedOn}
+use Rattle.ring.specs.Locate.{vertex, edge, lowest, atVertex, onEdge, choose, locatedOn}
 use Rattle.ring.specs.Walk.{Stands, Gone}
-use Rattle.ring.proofs.Pick.{pick-true, pick-false}
+use Rattle.ring.proofs.Pick.{pick-true}
 use Rattle.ring.proofs.Vertices.{at-end}
 use Rattle.ring.proofs.Quadrants.{same-quadrant, quadrant-most, turns-few}
 use Rattle.ring.proofs.Search.{lowest-none, lowest-first, Noted, noted-none, noted-more, noted-all}

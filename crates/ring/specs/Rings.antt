@@ -1,7 +1,7 @@
 -- Ring sums: what is added up over the edges of a ring, for any weight of an edge. Indices wrap round the ring. Assumes nothing.
 use Prim.Native.Nat.{ℕ, zero, suc, _%_}
 use mathlib.Core.Path.{_≡_}
-use mathlib.Core.List.{List, []}
+use mathlib.Core.List.{List}
 use lib.ListN.{length, getD}
 use lib.IntN.{ℤ, pos, negℤ, _+ℤ_}
 use Rattle.ring.specs.declared.Point.{Point}

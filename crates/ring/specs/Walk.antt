@@ -1,20 +1,18 @@
 -- What the functions of the walk round a ring ask and promise one another; no public promise cites it. Assumes nothing.
-use Prim.Native.Nat.{ℕ, suc, _+_, _≤_, _<_}
+use Prim.Native.Nat.{ℕ, _+_, _≤_, _<_}
 use mathlib.Core.Path.{_≡_}
-use mathlib.Core.Bool.{Bool, true, false, _&&_}
+use mathlib.Core.Bool.{Bool, false, _&&_}
 use mathlib.Core.List.{List}
 use lib.Dec.{leb}
 use lib.ListN.{length}
-use lib.IntN.{ℤ, pos, natAbs, _+ℤ_, _-ℤ_}
-use lib.Signed.{leZ}
+use lib.IntN.{ℤ, natAbs, _+ℤ_, _-ℤ_}
 use Rattle.exact.specs.declared.Arrow.{Arrow}
 use Rattle.exact.specs.Sign.{Short}
 use Rattle.ring.specs.declared.Point.{Point}
 use Rattle.ring.specs.declared.walk.Walk.{Walk}
-use Rattle.ring.specs.Grid.{pick, someBeyond, vertices}
+use Rattle.ring.specs.Grid.{pick, someBeyond}
 use Rattle.ring.specs.Rings.{at}
-use Rattle.ring.specs.Turns.{quadrant, quarterTurns}
-use Rattle.ring.specs.Locate.{onEdge}
+use Rattle.ring.specs.Turns.{quadrant}
 
 -- a point of the grid, by the sizes of its coordinates
 pub record OnGrid (p : Point) : Type 0 where

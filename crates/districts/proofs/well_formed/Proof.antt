@@ -1,15 +1,15 @@
 -- `districts::well_formed` asks the parts of the definition in its order and stops at the first that fails. Assumes nothing.
-use Prim.Native.Nat.{_+_, _≤_}
+use Prim.Native.Nat.{_≤_}
 use native.Mathlib.Omega.{arith}
-use mathlib.Core.Path.{_≡_, sym, ap, _∙_}
+use mathlib.Core.Path.{_≡_, sym, _∙_}
 use mathlib.Core.Bool.{true, not, _&&_}
-use lib.Dec.{eqb, leb}
+use lib.Dec.{eqb}
 use lib.ListN.{length}
 use borrow.Author.Needs.{needs}
-use borrow.Author.Tests.{eqb-true, leb-true, not-true, not-false}
+use borrow.Author.Tests.{eqb-true, not-true, not-false}
 use Rattle.ring.specs.Grid.{someBeyond}
 use Rattle.districts.specs.Lists.{part, outlineSize}
-use Rattle.districts.specs.WellFormed.{shaped, sized, total, counted, packed, onGrid, wellFormed}
+use Rattle.districts.specs.WellFormed.{shaped, total, counted, packed, wellFormed}
 use Rattle.districts.proofs.Sound.{size-most, outline-sized, total-most}
 use Rattle.districts.proofs.Tests.{stops, goes-on, both-left, both-right}
 use Rattle.districts.proofs.well_formed.Statement.{statement}

@@ -1,18 +1,15 @@
 -- `ring::locate` refuses in document 01's order and otherwise answers what the walk round the ring finds. Assumes nothing.
-use Prim.Native.Nat.{ℕ, _+_, _/_, _%_, _≤_}
+use Prim.Native.Nat.{_/_, _%_}
 use native.Mathlib.Omega.{arith}
-use mathlib.Core.Path.{_≡_, sym, ap, subst, _∙_}
-use mathlib.Core.Bool.{Bool, true, false, _||_}
+use mathlib.Core.Path.{_≡_, sym, ap, _∙_}
+use mathlib.Core.Bool.{false, _||_}
 use lib.Dec.{eqb, ltb}
 use lib.ListN.{length}
-use mir.Syntax.{w32}
-use mir.Val.{SFits}
 use mir.Facts.{toZ-ofZ}
 use borrow.Author.Needs.{needs}
 use borrow.Author.Tests.{eqb-false, ltb-false}
 use Rattle.ring.specs.Grid.{point, vertices, beyond, someBeyond, noRing}
 use Rattle.ring.specs.Locate.{located, locatedOn}
-use Rattle.ring.specs.Walk.{Ready}
 use Rattle.ring.proofs.Pick.{pick-true, pick-false, neither-left, neither-right}
 use Rattle.ring.proofs.OnGrid.{point-on-grid}
 use Rattle.ring.proofs.locate.Statement.{statement}

@@ -1,7 +1,6 @@
 -- `districts::packing::all_apart` asks of each number in turn. The invariant: the test so far is that of the numbers below d. Assumes nothing.
 use Prim.Native.Nat.{_≤_, _-_}
 use mathlib.Core.Path.{_≡_}
-use lib.ListN.{length}
 use borrow.Author.Needs.{needs}
 use Rattle.districts.specs.Counts.{allTo}
 use Rattle.districts.specs.WellFormed.{apart}

@@ -1,7 +1,6 @@
 -- `districts::runs::all_allowed` asks of each number in turn. The invariant: the test so far is that of the numbers below d. Assumes nothing.
 use Prim.Native.Nat.{_≤_, _-_}
 use mathlib.Core.Path.{_≡_, ap, _∙_}
-use lib.ListN.{length}
 use borrow.Author.Needs.{needs}
 use Rattle.districts.specs.Counts.{allTo}
 use Rattle.districts.specs.Lists.{size}

@@ -1,6 +1,5 @@
 -- `districts::runs::total` adds up the 64 sizes. The invariant: the sum so far is that of the numbers below d, each below 2 ^ 32. Assumes nothing.
 use Prim.Native.Nat.{_*_, _≤_, _-_}
-use native.Mathlib.Omega.{arith}
 use mathlib.Core.Path.{_≡_}
 use Rattle.districts.specs.Counts.{sumTo}
 use Rattle.districts.specs.Lists.{size}

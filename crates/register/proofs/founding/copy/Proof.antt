@@ -1,14 +1,14 @@
 -- `register::founding::copy` writes one number after the other. The invariant: the first i numbers are written, the rest is as it was.
 -- Assumes nothing.
-use Prim.Native.Nat.{ℕ, suc, _+_, _-_, _≤_, _<_}
+use Prim.Native.Nat.{ℕ, _+_, _-_, _≤_, _<_}
 use native.Mathlib.Nat.{zero-add}
 use native.Mathlib.Numerals.{add-one}
 use native.Mathlib.Omega.{arith}
-use mathlib.Core.Path.{_≡_, refl, sym, ap, subst, _∙_}
+use mathlib.Core.Path.{_≡_, refl, sym, ap, _∙_}
 use mathlib.Core.List.{List, _++_}
 use lib.IntN.{ℤ, pos}
-use lib.ListN.{length, getD, take, drop, set, length-set}
-use lib.Seq.{paste, paste-zero, paste-suc, length-paste, take-length}
+use lib.ListN.{length, getD, drop, set, length-set}
+use lib.Seq.{paste, paste-zero, paste-suc, take-length}
 use mir.Syntax.{w32}
 use mir.Val.{SFits}
 use mir.Facts.{toZ-ofZ}

@@ -1,13 +1,13 @@
 -- `register::founding::found` writes where nothing is refused, and otherwise leaves the lists. Assumes nothing.
-use Prim.Native.Nat.{ℕ, _≤_, _/_}
+use Prim.Native.Nat.{_/_}
 use native.Mathlib.Omega.{arith}
 use mathlib.Core.Path.{_≡_, refl, sym, ap, subst, _∙_}
-use mathlib.Core.Bool.{true, false, not}
+use mathlib.Core.Bool.{true, false}
 use mathlib.Core.List.{List}
 use lib.IntN.{ℤ}
 use lib.ListN.{length}
 use borrow.Author.Needs.{needs}
-use borrow.Author.Tests.{eqb-true, not-true, not-false}
+use borrow.Author.Tests.{eqb-true, not-false}
 use Rattle.ring.specs.Grid.{noRing, someBeyond}
 use Rattle.districts.specs.Lists.{outlineSize}
 use Rattle.districts.proofs.Sound.{outline-length, store-length, runs-length}

@@ -1,5 +1,5 @@
 -- `register::founding::judged` asks in document 01's order. Assumes nothing.
-use Prim.Native.Nat.{ℕ, _/_}
+use Prim.Native.Nat.{_/_}
 use native.Mathlib.Omega.{arith}
 use mathlib.Core.Path.{_≡_, sym, ap, _∙_}
 use mathlib.Core.Bool.{Bool, true, false, not}
@@ -10,7 +10,6 @@ use lib.ListN.{length}
 use borrow.Author.Needs.{needs}
 use borrow.Author.Tests.{eq-eqb, ne-eqb, not-true, not-false}
 use Rattle.ring.specs.Grid.{noRing, someBeyond}
-use Rattle.districts.specs.Lists.{outlineSize}
 use Rattle.districts.proofs.Sound.{runs-length}
 use Rattle.register.specs.Verdict.{_if_, verdict}
 use Rattle.register.specs.Sorting.{inUse}

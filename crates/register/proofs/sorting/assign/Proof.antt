@@ -1,5 +1,4 @@
 -- `register::sorting::assign` refuses in document 01's order and otherwise answers where the report belongs. Assumes nothing.
-use Prim.Native.Nat.{ℕ}
 use mathlib.Core.Path.{_≡_, sym, ap, _∙_}
 use mathlib.Core.Bool.{Bool, true, false, not, _||_}
 use mathlib.Core.List.{[], _∷_}

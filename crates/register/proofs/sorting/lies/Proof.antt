@@ -1,14 +1,12 @@
 -- `register::sorting::lies` hands the run of a number that is used to locating, and says of its answer whether r is on the ring or winds
 -- about it. Assumes nothing.
-use Prim.Native.Nat.{ℕ, _+_, _≤_, _<_}
+use Prim.Native.Nat.{_+_, _≤_}
 use native.Mathlib.Omega.{arith}
 use mathlib.Core.Path.{_≡_, sym, ap, subst, subst₂, _∙_}
-use mathlib.Core.Bool.{Bool}
-use lib.ListN.{length}
 use Rattle.ring.specs.Grid.{vertices}
-use Rattle.ring.specs.Locate.{Place, locatedOn}
+use Rattle.ring.specs.Locate.{locatedOn}
 use Rattle.ring.specs.Walk.{Ready}
-use Rattle.districts.specs.Lists.{firstPlace, size, part, district}
+use Rattle.districts.specs.Lists.{firstPlace, size, part}
 use Rattle.register.specs.Sorting.{rests, winds, ofSlot}
 use Rattle.register.proofs.Runs.{cut, ready, district-unused, district-ring}
 use borrow.Author.Needs.{needs}

@@ -1,9 +1,4 @@
 -- `ring::Quarters::plus` adds within 32 bits. Assumes nothing.
-use mathlib.Core.Path.{_∙_}
-use lib.IntN.{_+ℤ_}
-use mir.Syntax.{w32}
-use mir.Val.{SFits}
-use mir.Facts.{toZ-ofZ}
 use borrow.Author.Needs.{needs}
 use Rattle.exact.proofs.Bounds.{signed}
 use Rattle.ring.proofs.Quarters.plus.Statement.{statement}

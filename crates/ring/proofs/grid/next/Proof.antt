@@ -1,5 +1,5 @@
 -- `ring::grid::next` is the next index, by the rest round the ring. Assumes nothing.
-use Prim.Native.Nat.{suc, _+_}
+use Prim.Native.Nat.{suc}
 use native.Mathlib.Nat.{mod-eq-of-lt, mod-self}
 use native.Mathlib.Numerals.{add-one}
 use native.Mathlib.Omega.{arith}

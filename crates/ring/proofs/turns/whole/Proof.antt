@@ -1,11 +1,9 @@
 -- `ring::turns::whole` divides by four, toward zero. Assumes nothing.
-use mathlib.Core.Path.{_∙_}
-use lib.IntN.{pos}
 use mir.Syntax.{w32}
 use mir.Val.{SFits}
 use mir.Facts.{toZ-ofZ}
 use borrow.Author.Needs.{needs}
-use Rattle.exact.proofs.Bounds.{signed, quot-fits}
+use Rattle.exact.proofs.Bounds.{quot-fits}
 use Rattle.ring.proofs.turns.whole.Statement.{statement}
 use Rattle.ring.proofs.turns.whole.Tie as tie
 

@@ -2,7 +2,7 @@
 -- and then r is not on the edge; by the determinant otherwise, which is 0 exactly if r is on the edge. Assumes nothing.
 use Prim.Native.Nat.{suc, _<_, _≤_}
 use mathlib.Core.Path.{_≡_, sym, ap, subst, subst₂, _∙_}
-use mathlib.Core.Bool.{Bool, true, _&&_}
+use mathlib.Core.Bool.{true, _&&_}
 use lib.IntN.{pos, natAbs}
 use lib.Signed.{ltZ, leZ}
 use mir.Syntax.{w32}

@@ -1,7 +1,6 @@
 -- `ring::walk::determinant_at` forms the determinant of edge i from its two ends as seen from r. Assumes nothing.
-use Prim.Native.Nat.{ℕ, suc, _%_, _<_}
+use Prim.Native.Nat.{suc, _%_, _<_}
 use native.Mathlib.Nat.{mod-lt}
-use native.Mathlib.Omega.{arith}
 use mathlib.Core.Path.{_≡_, sym, ap, subst, _∙_}
 use lib.IntN.{_-ℤ_, _*ℤ_}
 use borrow.Author.Needs.{needs}

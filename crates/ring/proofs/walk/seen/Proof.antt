@@ -1,8 +1,7 @@
 -- `ring::walk::seen` is the difference of two points of the grid, and so a short arrow. Assumes nothing.
 use native.Mathlib.Omega.{arith}
-use mathlib.Core.Path.{_≡_, _∙_, ap, ap₂}
-use Prim.Native.Nat.{_≤_}
-use lib.IntN.{_-ℤ_, natAbs}
+use mathlib.Core.Path.{_≡_, _∙_}
+use lib.IntN.{_-ℤ_}
 use mir.Syntax.{w32}
 use mir.Val.{SFits}
 use mir.Facts.{toZ-ofZ}

@@ -1,8 +1,6 @@
 -- `ring::walk::settle` chooses between the edge that was noted and the winding number. Assumes nothing.
 use native.Mathlib.Nat.{le-refl}
-use mathlib.Core.Path.{_≡_, sym, ap, _∙_}
-use lib.IntN.{pos}
-use lib.Signed.{quotZ}
+use mathlib.Core.Path.{sym, ap, _∙_}
 use borrow.Author.Needs.{needs}
 use borrow.Author.Tests.{lt-ltb, le-ltb}
 use Rattle.ring.specs.Locate.{off}

@@ -2,7 +2,6 @@
 use mathlib.Core.Path.{sym, _∙_}
 use borrow.Author.Tests.{eq-eqb, ne-eqb}
 use Rattle.ring.proofs.Pick.{pick-true, pick-false}
-use borrow.Author.Needs.{needs}
 use Rattle.register.proofs.sorting.Seen.class.Statement.{statement}
 use Rattle.register.proofs.sorting.Seen.class.Tie as tie
 
