@@ -1,5 +1,9 @@
 pub mod Tests
 pub mod Counting
+pub mod Sums
+pub mod Tiles
 pub mod Sound
+pub mod Chains
+pub mod Marks
 pub mod Meaning
 pub mod Unique

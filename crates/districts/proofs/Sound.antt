@@ -1,8 +1,8 @@
 -- What a well-formed register keeps, fact by fact. Assumes nothing.
 use Prim.Native.Nat.{ℕ, _+_, _≤_, _<_}
 use native.Mathlib.Omega.{arith}
-use mathlib.Core.Path.{_≡_, refl}
-use mathlib.Core.Bool.{Bool, true, false, not, _&&_, _||_}
+use mathlib.Core.Path.{_≡_}
+use mathlib.Core.Bool.{true, false, not, _&&_, _||_}
 use mathlib.Core.List.{List}
 use mathlib.Core.Logic.{_⊎_, inl, inr}
 use lib.Dec.{eqb, leb}
@@ -12,13 +12,10 @@ use borrow.Author.Tests.{eqb-true, leb-true, not-true}
 use Rattle.ring.specs.Grid.{someBeyond}
 use Rattle.districts.specs.Counts.{allTo}
 use Rattle.districts.specs.Lists.{outlineSize, firstPlace, size, part}
-use Rattle.districts.specs.WellFormed.{shaped, sized, total, inside, packed, counted, onGrid, wellFormed}
-use Rattle.districts.proofs.Tests.{both-left, both-right}
+use Rattle.districts.specs.WellFormed.{shaped, sized, total, packed, counted, onGrid, wellFormed}
+use Rattle.districts.proofs.Tests.{both-left, both-right, either}
 use Rattle.districts.proofs.Counting.{all-each}
-
-either : (a b : Bool) → (a || b) ≡ true → (a ≡ true) ⊎ (b ≡ true)
-either true b e = inl refl
-either false b e = inr e
+use Rattle.districts.proofs.Tiles.{packed-tiles}
 
 -- none, or 3 to 2,048
 pub allowed-size : (n : ℕ) → sized n ≡ true → (n ≡ 0) ⊎ ((3 ≤ n) × (n ≤ 2048))
@@ -84,11 +81,7 @@ module _ (outline store : List ℤ) (runs : List ℕ) (e : wellFormed outline st
 
   -- a district's run ends within the used part of the store
   pub run-inside : (d : ℕ) → d < 64 → 0 < size runs d → firstPlace runs d + size runs d ≤ total runs
-  run-inside d h k = say (either (eqb (size runs d) 0) (leb (firstPlace runs d + size runs d) (total runs)) (all-each (inside runs (total runs)) 64 (both-left (allTo 64 (inside runs (total runs))) _ right-packing) d h))
-    where
-      say : (eqb (size runs d) 0 ≡ true) ⊎ (leb (firstPlace runs d + size runs d) (total runs) ≡ true) → firstPlace runs d + size runs d ≤ total runs
-      say (inl f) = absurd (let g : size runs d ≡ 0 = eqb-true (size runs d) 0 f in omega arith)
-      say (inr f) = leb-true (firstPlace runs d + size runs d) (total runs) f
+  run-inside = packed-tiles runs right-packing .within
 
   grid : (not (someBeyond (part outline 0 (outlineSize runs))) && not (someBeyond (part store 0 (total runs)))) ≡ true
   grid = both-right (packed runs) _ (both-right (counted runs) _ rest)

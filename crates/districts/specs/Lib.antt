@@ -2,4 +2,5 @@ pub mod Counts
 pub mod Register
 pub mod Lists
 pub mod WellFormed
+pub mod Places
 pub mod Answers

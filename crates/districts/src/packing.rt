@@ -1,82 +1,72 @@
 // Whether the runs of the districts lie in the store from its first place on, with no gap and no overlap, in any order of numbers.
+// A table says which run starts at a place; a walk from place 0 hops from run to run and has to come to the end exactly.
 use crate::first_place;
 use crate::size;
 ghost use mathlib.Core.Path.{_≡_};
-ghost use Prim.Native.Nat.{_<_};
+ghost use Prim.Native.Nat.{_+_, _<_, _≤_};
 ghost use lib.ListN.{length};
-ghost use Rattle.districts.specs.Counts.{allTo};
-ghost use Rattle.districts.specs.WellFormed.{inside as insideRun, apart as apartRuns, packed as packedRuns, total as totalOf};
+ghost use Rattle.districts.specs.Places.{Marked};
+ghost use Rattle.districts.specs.WellFormed.{packed as packedRuns, total as totalOf};
 
-fn inside(runs: &[u32], all: usize, d: usize) -> bool
-    requires { ⌜ length (now runs) ≡ 129 ⌝ }
+// What the table holds at the start of number d's run; 0 says that none starts.
+fn mark_of(d: usize) -> u8
     requires { ⌜ d < 64 ⌝ }
-    ensures { λ r. ⌜ r ≡ insideRun (now (runs .entry)) all d ⌝ }
+    ensures { λ r. ⌜ r ≡ d + 1 ⌝ }
 {
-    let n = size(runs, d);
-    (n == 0) | (first_place(runs, d) + n <= all)
+    (d + 1) as u8
 }
 
-fn apart(runs: &[u32], d: usize, e: usize) -> bool
+// Marks where d's run starts. An unused number has none, and one that starts beyond the store fits no packing.
+fn mark(runs: &[u32], starts: &mut [u8], d: usize)
     requires { ⌜ length (now runs) ≡ 129 ⌝ }
     requires { ⌜ d < 64 ⌝ }
-    requires { ⌜ e < 64 ⌝ }
-    ensures { λ r. ⌜ r ≡ apartRuns (now (runs .entry)) d e ⌝ }
+    requires { ⌜ Marked (now runs) d (now starts) ⌝ }
+    ensures { λ _. ⌜ Marked (now (runs .entry)) (d + 1) (now (starts .exit)) ⌝ }
 {
-    let n = size(runs, d);
-    let m = size(runs, e);
-    let at = first_place(runs, d);
-    let other = first_place(runs, e);
-    ((n == 0) | (m == 0)) | ((at + n <= other) | (other + m <= at))
+    let place = first_place(runs, d);
+    if (0 < size(runs, d)) & (place < crate::MOST_VERTICES) {
+        starts[place] = mark_of(d);
+    }
 }
 
-fn all_inside(runs: &[u32], all: usize) -> bool
+fn mark_all(runs: &[u32], starts: &mut [u8])
     requires { ⌜ length (now runs) ≡ 129 ⌝ }
-    ensures { λ r. ⌜ r ≡ allTo 64 (insideRun (now (runs .entry)) all) ⌝ }
+    requires { ⌜ Marked (now runs) 0 (now starts) ⌝ }
+    ensures { λ _. ⌜ Marked (now (runs .entry)) 64 (now (starts .exit)) ⌝ }
 {
-    let mut good = true;
     let mut d = 0;
     while d < crate::NUMBERS {
-        good = good & inside(runs, all, d);
+        mark(runs, starts, d);
         d += 1;
     }
-    good
 }
 
-// Whether d's run is apart from those of all lower numbers; an unused number has none.
-fn apart_from_lower(runs: &[u32], d: usize) -> bool
+// Whether the hops from place 0, each over the run that starts there, come to the end exactly.
+fn chained(runs: &[u32], starts: &[u8], all: usize) -> bool
     requires { ⌜ length (now runs) ≡ 129 ⌝ }
-    requires { ⌜ d < 64 ⌝ }
-    ensures { λ r. ⌜ r ≡ allTo d (λ e. apartRuns (now (runs .entry)) d e) ⌝ }
+    requires { ⌜ all ≡ totalOf (now runs) ⌝ }
+    requires { ⌜ all ≤ 2048 ⌝ }
+    requires { ⌜ Marked (now runs) 64 (now starts) ⌝ }
+    ensures { λ r. ⌜ r ≡ packedRuns (now (runs .entry)) ⌝ }
 {
-    if size(runs, d) == 0 {
-        return true;
+    let mut place = 0;
+    while place < all {
+        let mark = starts[place] as usize;
+        if mark == 0 {
+            return false;
+        }
+        place += size(runs, mark - 1);
     }
-    let mut good = true;
-    let mut e = 0;
-    while e < d {
-        good = good & apart(runs, d, e);
-        e += 1;
-    }
-    good
-}
-
-fn all_apart(runs: &[u32]) -> bool
-    requires { ⌜ length (now runs) ≡ 129 ⌝ }
-    ensures { λ r. ⌜ r ≡ allTo 64 (λ d. allTo d (λ e. apartRuns (now (runs .entry)) d e)) ⌝ }
-{
-    let mut good = true;
-    let mut d = 0;
-    while d < crate::NUMBERS {
-        good = good & apart_from_lower(runs, d);
-        d += 1;
-    }
-    good
+    place == all
 }
 
 pub fn packed(runs: &[u32], all: usize) -> bool
     requires { ⌜ length (now runs) ≡ 129 ⌝ }
     requires { ⌜ all ≡ totalOf (now runs) ⌝ }
+    requires { ⌜ all ≤ 2048 ⌝ }
     ensures { λ r. ⌜ r ≡ packedRuns (now (runs .entry)) ⌝ }
 {
-    all_inside(runs, all) & all_apart(runs)
+    let mut starts = [0u8; crate::MOST_VERTICES];
+    mark_all(runs, &mut starts);
+    chained(runs, &starts, all)
 }

@@ -43,7 +43,11 @@ right-counts : (c : tie.Else2) → counted (c .before .before .before .before .b
 right-counts c = sym (c .before .counted .ensures) ∙ not-false _ (c .if2 .left)
 
 packed-requires : tie.Need-packed-requires
-packed-requires c κs = (runs-length (c .before .before .before), c .before .before .total .ensures)
+packed-requires c κs =
+    let all = c .before .before .total .ensures in
+    let runs = c .before .before .before .before .before .before .args .runs .now in
+    let most : total runs ≤ 2048 = total-most runs (right-counts c) in
+    (runs-length (c .before .before .before), (all, omega arith))
 
 returns-3 : tie.Need-returns-3
 unfolding wellFormed

@@ -1,23 +1,31 @@
--- `districts::packing::packed` asks both things of all numbers. Assumes nothing.
-use mathlib.Core.Path.{ap, _∙_}
-use mathlib.Core.Bool.{_&&_}
+-- `districts::packing::packed` clears the table, fills it and walks along it. Assumes nothing.
+use mathlib.Core.Path.{refl}
 use borrow.Author.Needs.{needs}
-use Rattle.districts.specs.Counts.{allTo}
-use Rattle.districts.specs.WellFormed.{inside}
+use Rattle.districts.proofs.Marks.{marked-none}
 use Rattle.districts.proofs.packing.packed.Statement.{statement}
 use Rattle.districts.proofs.packing.packed.Tie as tie
 
-all-inside-requires : tie.Need-all-inside-requires
-all-inside-requires c κs = search needs
+slice-aggregate-mark-all : tie.Need-slice-aggregate-mark-all
+slice-aggregate-mark-all c = search needs
 
-all-apart-requires : tie.Need-all-apart-requires
-all-apart-requires c κs = search needs
+mark-all-requires : tie.Need-mark-all-requires
+mark-all-requires c κs = (c .before .before .pre .0, marked-none _ 2048 refl)
+
+slice-aggregate-chained : tie.Need-slice-aggregate-chained
+slice-aggregate-chained c = search needs
+
+chained-requires : tie.Need-chained-requires
+chained-requires c κs = search needs
 
 returns : tie.Need-returns
-returns c =
-    let start = c .before .before .before in
-    let within = c .before .all-inside .ensures ∙ ap (λ all. allTo 64 (inside (start .args .runs .now) all)) (start .pre .1) in
-    λ i. within i && c .all-apart .ensures i
+returns c = search needs
 
 pub packed-spec : {M : Type 1} → statement M
-packed-spec = tie.close (tie.spec all-inside-requires all-apart-requires returns)
+packed-spec =
+    tie.close
+    (tie.spec
+    slice-aggregate-mark-all
+    mark-all-requires
+    slice-aggregate-chained
+    chained-requires
+    returns)
