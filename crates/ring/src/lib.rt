@@ -7,6 +7,7 @@ mod walk;
 
 pub use grid::beyond;
 pub use grid::some_beyond;
+pub use grid::vertex;
 pub use walk::locate_on;
 ghost use mathlib.Core.Path.{_≡_};
 ghost use Prim.Native.Nat.{_/_};

@@ -1,0 +1,4 @@
+pub mod Runs
+pub mod Splitting
+pub mod Merging
+pub mod Writing
