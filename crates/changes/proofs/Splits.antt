@@ -1,0 +1,102 @@
+-- The lists after a district was divided: well-formed, with piece one under its number and piece two under a number that was unused.
+-- Assumes nothing.
+use Prim.Native.Nat.{ℕ, zero, suc, _+_, _≤_, _<_}
+use native.Mathlib.Decide.{ℕ-discrete}
+use native.Mathlib.Omega.{arith}
+use mathlib.Core.Path.{_≡_, refl, sym, ap, _∙_}
+use mathlib.Core.Bool.{true, false, _||_}
+use mathlib.Core.List.{List, [], _∷_, _++_, reverse, reverse-cons}
+use lib.IntN.{ℤ}
+use lib.ListN.{length, set}
+use lib.Seq.{set-set}
+use Rattle.ring.specs.declared.Point.{Point}
+use Rattle.ring.specs.Grid.{vertices, someBeyond}
+use Rattle.districts.specs.Register.{unused, ring, Register}
+use Rattle.districts.specs.Lists.{outlineSize, size, meaning}
+use Rattle.districts.specs.WellFormed.{total, wellFormed}
+use Rattle.changes.specs.Writing.{numbersOf, behind, entered, Added, Divided}
+use Rattle.changes.proofs.Forms.{sound}
+use Rattle.changes.proofs.Written.{numbers-length, vertices-numbers}
+use Rattle.changes.proofs.Entering.{entered-outline, entered-other-size, added-total, entered-well-formed, entered-meaning}
+use Rattle.changes.proofs.Leaving.{left-total, left-well-formed, left-meaning}
+
+-- a number is given a slot
+abbrev pub given : Register → ℕ → List Point → Register
+given g e P = record { outline = g .outline; districts = set (g .districts) e (ring P) }
+
+-- ---- a ring is added
+
+module _ (outline store : List ℤ) (runs : List ℕ) (e : ℕ) (P : List Point) (store′ : List ℤ) (runs′ : List ℕ)
+    (good : wellFormed outline store runs ≡ true) (some : 0 < outlineSize runs) (below : e < 64) (free : size runs e ≡ 0)
+    (least : 3 ≤ length P) (room : total runs + length P ≤ 2048) (grid : someBeyond (numbersOf P) ≡ false)
+    (a : Added store runs e P store′ runs′) where
+  pub added-well-formed : wellFormed outline store′ runs′ ≡ true
+  added-well-formed =
+      (λ i. wellFormed outline (a .0 i) (a .1 i))
+      ∙ entered-well-formed outline store runs e (length P) (numbersOf P) good some below free (numbers-length P) least room grid
+
+  pub added-meaning : meaning outline store′ runs′ ≡ given (meaning outline store runs) e P
+  added-meaning =
+      (λ i. meaning outline (a .0 i) (a .1 i))
+      ∙ entered-meaning outline store runs e (length P) (numbersOf P) good some below free (numbers-length P) least room grid
+      ∙ ap (given (meaning outline store runs) e) (vertices-numbers P)
+
+  pub added-outline : outlineSize runs′ ≡ outlineSize runs
+  added-outline = ap outlineSize (a .1) ∙ entered-outline runs e (total runs) (length P) (sound outline store runs good .runs-length) below
+
+-- ---- a district is divided
+
+module _ (outline store : List ℤ) (runs : List ℕ) (d e : ℕ) (one two : List Point) (store′ : List ℤ) (runs′ : List ℕ)
+    (good : wellFormed outline store runs ≡ true) (some : 0 < outlineSize runs)
+    (below : d < 64) (used : 0 < size runs d) (other : e < 64) (free : size runs e ≡ 0)
+    (least : (3 ≤ length one) × (3 ≤ length two)) (room : total runs + length one + length two ≤ 2048 + size runs d)
+    (grid : (someBeyond (numbersOf one) ≡ false) × (someBeyond (numbersOf two) ≡ false))
+    (v : Divided store runs d e one two store′ runs′) where
+  g : Register
+  g = meaning outline store runs
+
+  differ : e ≡ d → ⊥
+  differ f = let same : size runs e ≡ size runs d = ap (size runs) f in omega (arith, used, free)
+
+  good₁ : wellFormed outline (v .store₁) (v .runs₁) ≡ true
+  good₁ = left-well-formed outline store runs d (v .store₁) (v .runs₁) good below used (v .left)
+
+  total₁ : total (v .runs₁) + size runs d ≡ total runs
+  total₁ = left-total store runs d (v .store₁) (v .runs₁) below (v .left)
+
+  some₁ : 0 < outlineSize (v .runs₁)
+  some₁ = omega (arith, v .left .outline-same)
+
+  room₁ : total (v .runs₁) + length one ≤ 2048
+  room₁ = omega (arith, total₁, room)
+
+  good₂ : wellFormed outline (v .store₂) (v .runs₂) ≡ true
+  good₂ = added-well-formed outline (v .store₁) (v .runs₁) d one (v .store₂) (v .runs₂) good₁ some₁ below (v .left .gone) (least .0) room₁ (grid .0) (v .first)
+
+  total₂ : total (v .runs₂) ≡ total (v .runs₁) + length one
+  total₂ = added-total (v .store₁) (v .runs₁) d one (v .store₂) (v .runs₂) (v .left .long-runs) below (v .left .gone) (v .first)
+
+  some₂ : 0 < outlineSize (v .runs₂)
+  some₂ = omega (arith, some₁, added-outline outline (v .store₁) (v .runs₁) d one (v .store₂) (v .runs₂) good₁ some₁ below (v .left .gone) (least .0) room₁ (grid .0) (v .first))
+
+  free₂ : size (v .runs₂) e ≡ 0
+  free₂ =
+      ap (λ l. size l e) (v .first .1)
+      ∙ entered-other-size (v .runs₁) d (total (v .runs₁)) (length one) (v .left .long-runs) below e differ
+      ∙ v .left .sizes e other differ
+      ∙ free
+
+  room₂ : total (v .runs₂) + length two ≤ 2048
+  room₂ = omega (arith, total₁, total₂, room)
+
+  pub divided-well-formed : wellFormed outline store′ runs′ ≡ true
+  divided-well-formed = added-well-formed outline (v .store₂) (v .runs₂) e two store′ runs′ good₂ some₂ other free₂ (least .1) room₂ (grid .1) (v .second)
+
+  pub divided-meaning : meaning outline store′ runs′ ≡ given (given (meaning outline store runs) d one) e two
+  unfolding g
+  divided-meaning =
+      added-meaning outline (v .store₂) (v .runs₂) e two store′ runs′ good₂ some₂ other free₂ (least .1) room₂ (grid .1) (v .second)
+      ∙ ap (λ h. given h e two) (
+          added-meaning outline (v .store₁) (v .runs₁) d one (v .store₂) (v .runs₂) good₁ some₁ below (v .left .gone) (least .0) room₁ (grid .0) (v .first)
+          ∙ ap (λ h. given h d one) (left-meaning outline store runs d (v .store₁) (v .runs₁) good below used (v .left))
+          ∙ (λ i. record { outline = g .outline; districts = set-set (g .districts) d unused (ring one) i }))
