@@ -5,3 +5,5 @@ pub mod Entering
 pub mod Leaving
 pub mod Sums
 pub mod Splits
+pub mod Answers
+pub mod Judged

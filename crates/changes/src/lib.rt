@@ -1,4 +1,24 @@
 // Splitting and merging districts over three lent lists. No public call has a `requires`; a refused call changes nothing.
+mod judging;
 mod pieces;
 mod room;
 mod splitting;
+
+// Why a change is refused; specs/Calls.antt has document 01's number for each.
+pub enum Refusal {
+    NotWellFormed,
+    NoOutline,
+    OddPath,
+    BeyondGrid,
+    BadNumber,
+    BadIndex,
+    TooFew,
+    NumbersInUse,
+    NoRoom,
+}
+
+pub enum Changed {
+    // The district that was made, or kept.
+    Done(usize),
+    Refused(Refusal),
+}

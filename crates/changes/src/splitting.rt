@@ -13,7 +13,7 @@ ghost use Rattle.changes.specs.Splitting.{pieceOne, pieceTwo};
 ghost use Rattle.changes.specs.Writing.{Added, Divided};
 
 // How many edges lead from vertex i forward to vertex j, of a ring of n.
-fn steps(n: usize, i: usize, j: usize) -> usize
+pub fn steps(n: usize, i: usize, j: usize) -> usize
     requires { ⌜ n ≤ 2048 ⌝ }
     requires { ⌜ i < n ⌝ }
     requires { ⌜ j < n ⌝ }
