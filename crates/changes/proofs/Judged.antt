@@ -19,6 +19,7 @@ use Rattle.districts.specs.WellFormed.{total, wellFormed}
 use Rattle.districts.proofs.Sums.{sum-same}
 use Rattle.districts.proofs.Meaning.{unused-when, ring-when, slot-is}
 use Rattle.register.specs.Verdict.{Test, _if_}
+use Rattle.register.proofs.Runs.{part-length}
 use Rattle.register.specs.Sorting.{inUse}
 use Rattle.changes.specs.Runs.{run, steps, verticesOf}
 use Rattle.changes.specs.Splitting.{pieceOne, pieceTwo, lowestUnused, vertexCount, splitTests}
@@ -47,11 +48,8 @@ module _ (outline store : List ℤ) (runs : List ℕ) (good : wellFormed outline
   -- the ring of a number in use, as the store holds it
   pub ring-numbers : (d : ℕ) → (size runs d ≡ 0 → ⊥) → length (part store (firstPlace runs d) (size runs d)) ≡ size runs d + size runs d
   ring-numbers d some =
-      let f = firstPlace runs d in
-      let n = size runs d in
       let fits = s .inside d (used-below d some) (omega arith) in
-      let long : length (drop (f + f) store) ≡ 4096 - (f + f) = length-drop (f + f) store ∙ ap (λ k. k - (f + f)) (s .store-length) in
-      length-take-le (n + n) (drop (f + f) store) (omega (arith, long, fits, s .most))
+      part-length store (firstPlace runs d) (size runs d) (omega (arith, fits, s .most, s .store-length))
 
   pub ring-of : (d : ℕ) → (size runs d ≡ 0 → ⊥) → verticesOf (slot (meaning outline store runs) d) ≡ vertices (part store (firstPlace runs d) (size runs d))
   ring-of d some = ap verticesOf (slot-is outline store runs (s .runs-length) d ∙ ring-when store (firstPlace runs d) (size runs d) some)

@@ -167,3 +167,9 @@ added store runs e P free f ys g runs′ m h k = let twice : 2 * free ≡ total 
 -- how long a run with a path behind it is
 pub one-length : (P : List Point) (i c : ℕ) (path : List ℤ) (k : ℕ) → length path ≡ k + k → length (run P i c ++ reverse (vertices path)) ≡ c + k
 one-length P i c path k e = length-append (run P i c) (reverse (vertices path)) ∙ (λ t. run-length P i c t + (length-reverse (vertices path) ∙ length-vertices path k e) t)
+
+-- a ring that was written whole is read back
+pub copied : (xs ring before : List ℤ) (n : ℕ) → length xs ≡ n + n → ring ≡ written (numbersOf (run (vertices xs) 0 n)) before → take (2 * n - 0) ring ≡ xs
+copied xs ring before n e f =
+    ap (take (2 * n - 0)) (f ∙ ap (λ P. written (numbersOf P) before) (run-all (vertices xs) n (length-vertices xs n e)) ∙ ap (λ l. written l before) (numbers-vertices xs n e))
+    ∙ take-at xs (drop (length xs) before) (2 * n - 0) (omega arith)

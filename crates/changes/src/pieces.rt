@@ -32,7 +32,7 @@ fn around(k: usize, n: usize) -> usize
 }
 
 // Writes the c vertices of a ring of n from vertex i on, going forward.
-fn write_run(to: &mut [i32], ring: &[i32], n: usize, i: usize, c: usize)
+pub fn write_run(to: &mut [i32], ring: &[i32], n: usize, i: usize, c: usize)
     requires { ⌜ length (now ring) ≡ n + n ⌝ }
     requires { ⌜ i ≤ n ⌝ }
     requires { ⌜ c ≤ n ⌝ }

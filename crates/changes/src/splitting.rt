@@ -1,13 +1,15 @@
 // Splitting a district: its run leaves the store, and the two pieces are written from the first free place on.
 use crate::pieces;
 use crate::room;
+use crate::Changed;
 ghost use mathlib.Core.Path.{_≡_};
 ghost use mathlib.Core.List.{_++_, reverse};
-ghost use Prim.Native.Nat.{_+_, _<_, _≤_};
+ghost use Prim.Native.Nat.{_+_, _%_, _<_, _≤_};
 ghost use lib.ListN.{length};
 ghost use Rattle.ring.specs.Grid.{vertices};
-ghost use Rattle.districts.specs.Lists.{firstPlace, size as sizeOf};
+ghost use Rattle.districts.specs.Lists.{firstPlace, size as sizeOf, part};
 ghost use Rattle.districts.specs.WellFormed.{total as totalOf};
+ghost use Rattle.changes.specs.declared.Changed.the-variants.{Done};
 ghost use Rattle.changes.specs.Runs.{run, steps as stepsOf};
 ghost use Rattle.changes.specs.Splitting.{pieceOne, pieceTwo};
 ghost use Rattle.changes.specs.Writing.{Added, Divided};
@@ -103,4 +105,23 @@ fn divide(
     room::remove(store, runs, d);
     add_one(store, runs, d, ring, n, i, one, path, k);
     add_two(store, runs, e, ring, n, j, two, path, k, 0, k);
+}
+
+// The district's ring is read before its room is closed.
+fn perform(store: &mut [i32], runs: &mut [u32], d: usize, e: usize, i: usize, j: usize, path: &[i32]) -> Changed
+    requires { ⌜ (length (now store) ≡ 4096) × (length (now runs) ≡ 129) × (d < 64) × (e < 64) ⌝ }
+    requires { ⌜ firstPlace (now runs) d + sizeOf (now runs) d ≤ totalOf (now runs) ⌝ }
+    requires { ⌜ (i < sizeOf (now runs) d) × (j < sizeOf (now runs) d) × (i ≡ j → ⊥) ⌝ }
+    requires { ⌜ length (now path) % 2 ≡ 0 ⌝ }
+    requires { ⌜ totalOf (now runs) + 2 + length (now path) ≤ 2048 ⌝ }
+    ensures { λ r. ⌜ (r ≡ Done e) × Divided (now (store .entry)) (now (runs .entry)) d e (pieceOne (vertices (part (now (store .entry)) (firstPlace (now (runs .entry)) d) (sizeOf (now (runs .entry)) d))) i j (vertices (now (path .entry)))) (pieceTwo (vertices (part (now (store .entry)) (firstPlace (now (runs .entry)) d) (sizeOf (now (runs .entry)) d))) i j (vertices (now (path .entry)))) (now (store .exit)) (now (runs .exit)) ⌝ }
+{
+    let n = districts::size(runs, d);
+    let from = 2 * districts::first_place(runs, d);
+    let many = 2 * n;
+    let to = from + many;
+    let mut ring = [0i32; districts::STORE_LENGTH];
+    pieces::write_run(&mut ring, &store[from..to], n, 0, n);
+    divide(store, runs, d, e, &ring[0..many], n, i, j, path, path.len() / 2);
+    Changed::Done(e)
 }
