@@ -54,6 +54,9 @@ module _ (outline store : List ℤ) (runs : List ℕ) (good : wellFormed outline
   pub ring-of : (d : ℕ) → (size runs d ≡ 0 → ⊥) → verticesOf (slot (meaning outline store runs) d) ≡ vertices (part store (firstPlace runs d) (size runs d))
   ring-of d some = ap verticesOf (slot-is outline store runs (s .runs-length) d ∙ ring-when store (firstPlace runs d) (size runs d) some)
 
+  abbrev ringOf : ℕ → List Point
+  ringOf d = verticesOf (slot (meaning outline store runs) d)
+
   length-of : (d : ℕ) → length (verticesOf (slot (meaning outline store runs) d)) ≡ size runs d
   length-of d = elim (ℕ-discrete (size runs d) 0) [
     | yes none ↦ ap (λ t. length (verticesOf t)) (slot-is outline store runs (s .runs-length) d ∙ unused-when store (firstPlace runs d) (size runs d) none) ∙ sym none
@@ -83,25 +86,20 @@ module _ (outline store : List ℤ) (runs : List ℕ) (good : wellFormed outline
   count-is = sum-same (λ d. length (verticesOf (slot (meaning outline store runs) d))) (size runs) 64 (λ d h. length-of d)
 
   module _ (d i j : ℕ) (path : List ℤ) where
-    P : List Point
-    P = verticesOf (slot (meaning outline store runs) d)
-
-    piece : (a b : ℕ) (W : List Point) → length W ≡ length path / 2 → length (run P a (suc (steps (length P) a b)) ++ W) ≡ suc (steps (size runs d) a b) + length path / 2
-    unfolding P
+    piece : (a b : ℕ) (W : List Point) → length W ≡ length path / 2 → length (run (ringOf d) a (suc (steps (length (ringOf d)) a b)) ++ W) ≡ suc (steps (size runs d) a b) + length path / 2
     piece a b W e =
-        length-append (run P a (suc (steps (length P) a b))) W
-        ∙ (λ t. run-length P a (suc (steps (length P) a b)) t + e t)
+        length-append (run (ringOf d) a (suc (steps (length (ringOf d)) a b))) W
+        ∙ (λ t. run-length (ringOf d) a (suc (steps (length (ringOf d)) a b)) t + e t)
         ∙ ap (λ n. suc (steps n a b) + length path / 2) (length-of d)
 
-    one-long : length (pieceOne P i j (vertices path)) ≡ suc (steps (size runs d) i j) + length path / 2
+    pub one-long : length (pieceOne (ringOf d) i j (vertices path)) ≡ suc (steps (size runs d) i j) + length path / 2
     one-long = piece i j (reverse (vertices path)) (length-reverse (vertices path) ∙ vertices-half path)
 
-    two-long : length (pieceTwo P i j (vertices path)) ≡ suc (steps (size runs d) j i) + length path / 2
+    pub two-long : length (pieceTwo (ringOf d) i j (vertices path)) ≡ suc (steps (size runs d) j i) + length path / 2
     two-long = piece j i (vertices path) (vertices-half path)
 
     pub tests-are : (b : Bool) → splitTests b (meaning outline store runs) d i j path
       ≡ ((1 if not b) ∷ (2 if not (inUse (meaning outline store runs .outline))) ∷ (6 if not (inUse (slot (meaning outline store runs) d))) ∷ cutTests (size runs d) (total runs) (lowestFree runs) i j path)
-    unfolding P
     tests-are b = λ t.
         (1 if not b)
         ∷ (2 if not (inUse (meaning outline store runs .outline)))

@@ -7,3 +7,5 @@ pub mod Sums
 pub mod Splits
 pub mod Answers
 pub mod Judged
+pub mod Grids
+pub mod Accepted

@@ -1,0 +1,41 @@
+-- Runs of a ring on the grid, and a path read backwards, are on the grid. Assumes nothing.
+use Prim.Native.Nat.{ℕ, zero, suc}
+use mathlib.Core.Path.{_≡_, refl, ap, _∙_}
+use mathlib.Core.Bool.{false, _||_}
+use mathlib.Core.List.{List, [], _∷_, _++_, reverse, reverse-cons}
+use lib.IntN.{ℤ}
+use lib.ListN.{getD}
+use Rattle.ring.specs.declared.Point.{Point}
+use Rattle.ring.specs.Grid.{beyond, someBeyond, vertices}
+use Rattle.ring.specs.Rings.{at}
+use Rattle.ring.proofs.Pick.{neither-left, neither-right}
+use Rattle.ring.proofs.Vertices.{origin}
+use Rattle.changes.specs.Runs.{run}
+use Rattle.changes.specs.Writing.{numbersOf}
+use Rattle.changes.proofs.Written.{numbers-append}
+use Rattle.changes.proofs.Parts.{append-on-grid}
+
+abbrev OnGrid : Point → Type 0
+OnGrid p = (beyond (p .x) ≡ false) × (beyond (p .y) ≡ false)
+
+vertex-on-grid : (xs : List ℤ) → someBeyond xs ≡ false → (k : ℕ) → OnGrid (getD (vertices xs) k origin)
+unfolding vertices
+vertex-on-grid [] e k = (refl, refl)
+vertex-on-grid (x ∷ []) e k = (refl, refl)
+vertex-on-grid (x ∷ y ∷ xs) e zero = (neither-left (beyond x) _ e, neither-left (beyond y) _ (neither-right (beyond x) _ e))
+vertex-on-grid (x ∷ y ∷ xs) e (suc k) = vertex-on-grid xs (neither-right (beyond y) _ (neither-right (beyond x) _ e)) k
+
+pub run-on-grid : (xs : List ℤ) → someBeyond xs ≡ false → (i c : ℕ) → someBeyond (numbersOf (run (vertices xs) i c)) ≡ false
+unfolding numbersOf run at
+run-on-grid xs e i zero = refl
+run-on-grid xs e i (suc c) = let p = vertex-on-grid xs e _ in λ t. p .0 t || (p .1 t || run-on-grid xs e (suc i) c t)
+
+pub reverse-on-grid : (W : List Point) → someBeyond (numbersOf W) ≡ false → someBeyond (numbersOf (reverse W)) ≡ false
+unfolding numbersOf
+reverse-on-grid [] e = refl
+reverse-on-grid (p ∷ W) e =
+    let rest = neither-right (beyond (p .y)) _ (neither-right (beyond (p .x)) _ e) in
+    let own : someBeyond (p .x ∷ p .y ∷ []) ≡ false = λ t. neither-left (beyond (p .x)) _ e t || (neither-left (beyond (p .y)) _ (neither-right (beyond (p .x)) _ e) t || false) in
+    ap (λ Q. someBeyond (numbersOf Q)) (reverse-cons p W)
+    ∙ ap someBeyond (numbers-append (reverse W) (p ∷ []))
+    ∙ append-on-grid (numbersOf (reverse W)) (p .x ∷ p .y ∷ []) (reverse-on-grid W rest) own
