@@ -9,3 +9,4 @@ pub mod Answers
 pub mod Judged
 pub mod Grids
 pub mod Accepted
+pub mod Outcomes

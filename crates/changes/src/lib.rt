@@ -4,6 +4,8 @@ mod pieces;
 mod room;
 mod splitting;
 
+pub use splitting::split;
+
 // Why a change is refused; specs/Calls.antt has document 01's number for each.
 pub enum Refusal {
     NotWellFormed,

@@ -1,4 +1,5 @@
 // Splitting a district: its run leaves the store, and the two pieces are written from the first free place on.
+use crate::judging;
 use crate::pieces;
 use crate::room;
 use crate::Changed;
@@ -13,6 +14,7 @@ ghost use Rattle.changes.specs.declared.Changed.the-variants.{Done};
 ghost use Rattle.changes.specs.Runs.{run, steps as stepsOf};
 ghost use Rattle.changes.specs.Splitting.{pieceOne, pieceTwo};
 ghost use Rattle.changes.specs.Writing.{Added, Divided};
+ghost use Rattle.changes.specs.Calls.{SplitBy};
 
 // How many edges lead from vertex i forward to vertex j, of a ring of n.
 pub fn steps(n: usize, i: usize, j: usize) -> usize
@@ -124,4 +126,15 @@ fn perform(store: &mut [i32], runs: &mut [u32], d: usize, e: usize, i: usize, j:
     pieces::write_run(&mut ring, &store[from..to], n, 0, n);
     divide(store, runs, d, e, &ring[0..many], n, i, j, path, path.len() / 2);
     Changed::Done(e)
+}
+
+// Splits district d from vertex i to vertex j along a path; answers the number of the new district.
+pub fn split(outline: &[i32], store: &mut [i32], runs: &mut [u32], d: usize, i: usize, j: usize, path: &[i32]) -> Changed
+    ensures { λ r. ⌜ SplitBy r d i j (now (path .entry)) (record { outline = now (outline .entry); store = now (store .entry); runs = now (runs .entry) }) (record { outline = now (outline .entry); store = now (store .exit); runs = now (runs .exit) }) ⌝ }
+{
+    let verdict = judging::split(outline, store, runs, d, i, j, path);
+    match verdict {
+        Changed::Done(e) => perform(store, runs, d, e, i, j, path),
+        Changed::Refused(_) => verdict,
+    }
 }
