@@ -1,7 +1,6 @@
 // Rings and points to ask about, made from a seed, kind by kind; each function is proved safe and ending. A list of ROOM numbers is lent, and a ring is written to its first places.
 // Coordinates are drawn as numbers that are never negative, MIDDLE for 0; the grid's go from 1 to 2 MIDDLE - 1.
 pub mod chance;
-pub mod registers;
 
 use chance::draw;
 use chance::wrapped;
@@ -139,20 +138,15 @@ fn half_way(p: usize, q: usize, seed: &mut usize) -> i32
     coordinate((p + q) / 2 + (draw(seed, 4) + 1) / 2 - 1)
 }
 
-// A coordinate half way between two of this spread, and so more often inside.
-fn among(spread: Spread, seed: &mut usize) -> i32 {
-    half_way(drawn(spread, seed), drawn(spread, seed), seed)
-}
-
-// The case of the first n vertices with a point among them.
+// The case of the first n vertices with a point half way between two of this spread, and so more often inside.
 fn case_of(n: usize, spread: Spread, seed: &mut usize) -> Case
     requires { ⌜ n ≤ 2048 ⌝ }
     ensures { λ r. ⌜ r .m ≤ room ⌝ }
 {
     Case {
         m: 2 * n,
-        x: among(spread, seed),
-        y: among(spread, seed),
+        x: half_way(drawn(spread, seed), drawn(spread, seed), seed),
+        y: half_way(drawn(spread, seed), drawn(spread, seed), seed),
     }
 }
 

@@ -2,7 +2,7 @@
 use Prim.Native.Nat.{ℕ, suc, _+_, _/_, _%_, _≤_, _<_}
 use native.Mathlib.Omega.{arith}
 use mathlib.Core.Path.{_≡_, refl, sym, ap, _∙_}
-use mathlib.Core.Bool.{Bool, true, false, not, _||_}
+use mathlib.Core.Bool.{true, false, _||_}
 use mathlib.Core.List.{List, _++_, reverse}
 use lib.Dec.{eqb, leb, ltb}
 use lib.IntN.{ℤ}
@@ -16,12 +16,11 @@ use Rattle.districts.specs.Lists.{outlineSize, firstPlace, size, part, meaning}
 use Rattle.districts.specs.WellFormed.{total, wellFormed}
 use Rattle.districts.proofs.Meaning.{part-on-grid}
 use Rattle.register.specs.Verdict.{accept, verdict}
-use Rattle.register.specs.Sorting.{inUse}
 use Rattle.register.proofs.Rooms.{outline-in-use}
 use Rattle.register.proofs.Verdicts.{accepted}
 use Rattle.ring.proofs.Search.{lowest-is}
-use Rattle.changes.specs.Runs.{run, steps, verticesOf}
-use Rattle.changes.specs.Splitting.{pieceOne, pieceTwo, lowestUnused, splitTests, split}
+use Rattle.changes.specs.Runs.{steps, verticesOf}
+use Rattle.changes.specs.Splitting.{pieceOne, pieceTwo, splitTests, split}
 use Rattle.changes.specs.Judging.{lowestFree}
 use Rattle.changes.specs.Writing.{numbersOf, Divided}
 use Rattle.changes.proofs.Forms.{Sound, sound}
@@ -122,9 +121,9 @@ module _ (outline store : List ℤ) (runs : List ℕ) (d i j : ℕ) (path : List
   grids : (someBeyond (numbersOf (pieceOne P i j W)) ≡ false) × (someBeyond (numbersOf (pieceTwo P i j W)) ≡ false)
   unfolding P
   grids = (
-      both-on-grid _ (reverse W) (run-on-grid (part store (firstPlace runs d) (size runs d)) store-grid i _) (reverse-on-grid W path-grid),
-      both-on-grid _ W (run-on-grid (part store (firstPlace runs d) (size runs d)) store-grid j _) path-grid
-    )
+    both-on-grid _ (reverse W) (run-on-grid (part store (firstPlace runs d) (size runs d)) store-grid i _) (reverse-on-grid W path-grid),
+    both-on-grid _ W (run-on-grid (part store (firstPlace runs d) (size runs d)) store-grid j _) path-grid,
+  )
 
   unused-number : size runs (lowestFree runs) ≡ 0
   unused-number = eqb-true (size runs (lowestFree runs)) 0 (lowest-is (λ e. eqb (size runs e) 0) 64 0 (lowestFree runs) refl (free .number) .0)
@@ -156,13 +155,13 @@ module _ (outline store : List ℤ) (runs : List ℕ) (d i j : ℕ) (path : List
   split-below = below
 
   pub split-well-formed : (store′ : List ℤ) (runs′ : List ℕ)
-    → Divided store runs d (lowestFree runs) (pieceOne (vertices (part store (firstPlace runs d) (size runs d))) i j (vertices path)) (pieceTwo (vertices (part store (firstPlace runs d) (size runs d))) i j (vertices path)) store′ runs′
-    → wellFormed outline store′ runs′ ≡ true
+      → Divided store runs d (lowestFree runs) (pieceOne (vertices (part store (firstPlace runs d) (size runs d))) i j (vertices path)) (pieceTwo (vertices (part store (firstPlace runs d) (size runs d))) i j (vertices path)) store′ runs′
+      → wellFormed outline store′ runs′ ≡ true
   unfolding P W
   split-well-formed = well
 
   pub split-meaning : (store′ : List ℤ) (runs′ : List ℕ)
-    → Divided store runs d (lowestFree runs) (pieceOne (vertices (part store (firstPlace runs d) (size runs d))) i j (vertices path)) (pieceTwo (vertices (part store (firstPlace runs d) (size runs d))) i j (vertices path)) store′ runs′
-    → meaning outline store′ runs′ ≡ split (meaning outline store runs) d i j (vertices path)
+      → Divided store runs d (lowestFree runs) (pieceOne (vertices (part store (firstPlace runs d) (size runs d))) i j (vertices path)) (pieceTwo (vertices (part store (firstPlace runs d) (size runs d))) i j (vertices path)) store′ runs′
+      → meaning outline store′ runs′ ≡ split (meaning outline store runs) d i j (vertices path)
   unfolding P W
   split-meaning = sense

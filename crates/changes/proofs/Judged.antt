@@ -1,5 +1,5 @@
 -- The tests of a split over the register that the lists mean are those over the numbers that the lists hold. Assumes nothing.
-use Prim.Native.Nat.{ℕ, zero, suc, _+_, _-_, _/_, _%_, _≤_, _<_}
+use Prim.Native.Nat.{ℕ, suc, _+_, _/_, _%_, _≤_, _<_}
 use native.Mathlib.Decide.{ℕ-discrete, decLt}
 use native.Mathlib.Omega.{arith}
 use mathlib.Core.Path.{_≡_, refl, sym, ap, _∙_}
@@ -7,18 +7,17 @@ use mathlib.Core.Bool.{Bool, true, false, not, _||_}
 use mathlib.Core.List.{List, [], _∷_, _++_, reverse}
 use lib.Dec.{eqb, leb, ltb}
 use lib.IntN.{ℤ}
-use lib.ListN.{length, getD, take, drop, length-append, length-drop, length-reverse, List·getD-eq-default}
-use lib.Seq.{length-take-le}
+use lib.ListN.{length, length-append, length-reverse, List·getD-eq-default}
 use Rattle.ring.specs.declared.Point.{Point}
 use Rattle.ring.specs.Grid.{pick, vertices, someBeyond}
 use Rattle.ring.specs.Locate.{lowest}
 use Rattle.ring.proofs.Vertices.{length-vertices}
-use Rattle.districts.specs.Register.{Slot, unused, ring, Register, slot}
-use Rattle.districts.specs.Lists.{firstPlace, size, part, held, district, meaning}
+use Rattle.districts.specs.Register.{unused, ring, slot}
+use Rattle.districts.specs.Lists.{firstPlace, size, part, meaning}
 use Rattle.districts.specs.WellFormed.{total, wellFormed}
 use Rattle.districts.proofs.Sums.{sum-same}
 use Rattle.districts.proofs.Meaning.{unused-when, ring-when, slot-is}
-use Rattle.register.specs.Verdict.{Test, _if_}
+use Rattle.register.specs.Verdict.{_if_}
 use Rattle.register.proofs.Runs.{part-length}
 use Rattle.register.specs.Sorting.{inUse}
 use Rattle.changes.specs.Runs.{run, steps, verticesOf}
@@ -99,7 +98,7 @@ module _ (outline store : List ℤ) (runs : List ℕ) (good : wellFormed outline
     two-long = piece j i (vertices path) (vertices-half path)
 
     pub tests-are : (b : Bool) → splitTests b (meaning outline store runs) d i j path
-      ≡ ((1 if not b) ∷ (2 if not (inUse (meaning outline store runs .outline))) ∷ (6 if not (inUse (slot (meaning outline store runs) d))) ∷ cutTests (size runs d) (total runs) (lowestFree runs) i j path)
+        ≡ ((1 if not b) ∷ (2 if not (inUse (meaning outline store runs .outline))) ∷ (6 if not (inUse (slot (meaning outline store runs) d))) ∷ cutTests (size runs d) (total runs) (lowestFree runs) i j path)
     tests-are b = λ t.
         (1 if not b)
         ∷ (2 if not (inUse (meaning outline store runs .outline)))

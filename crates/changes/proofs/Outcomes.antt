@@ -26,7 +26,7 @@ refusing (refuse m) n k g l f = refl
 
 module _ (r : Changed) (d i j : ℕ) (path : List ℤ) (l : Lists) where
   pub split-done : (after : Lists) (e : ℕ) → r ≡ Done e → verdict (splitTests (formed l) (means l) d i j path) ≡ accept → e ≡ lowestUnused (means l)
-    → formed after ≡ true → means after ≡ split (means l) d i j (vertices path) → SplitBy r d i j path l after
+      → formed after ≡ true → means after ≡ split (means l) d i j (vertices path) → SplitBy r d i j path l after
   split-done after e is granted number well sense = record {
     said = ap answerOf is ∙ ap done number ∙ sym (ap (λ v. answers v (lowestUnused (means l))) granted);
     left = subst (λ v. Leaves v (split (means l) d i j (vertices path)) l after) (sym granted) (well, sense);

@@ -1,20 +1,19 @@
 -- The lists after a district was divided: well-formed, with piece one under its number and piece two under a number that was unused.
 -- Assumes nothing.
-use Prim.Native.Nat.{ℕ, zero, suc, _+_, _≤_, _<_}
-use native.Mathlib.Decide.{ℕ-discrete}
+use Prim.Native.Nat.{ℕ, _+_, _≤_, _<_}
 use native.Mathlib.Omega.{arith}
-use mathlib.Core.Path.{_≡_, refl, sym, ap, _∙_}
-use mathlib.Core.Bool.{true, false, _||_}
-use mathlib.Core.List.{List, [], _∷_, _++_, reverse, reverse-cons}
+use mathlib.Core.Path.{_≡_, ap, _∙_}
+use mathlib.Core.Bool.{true, false}
+use mathlib.Core.List.{List}
 use lib.IntN.{ℤ}
 use lib.ListN.{length, set}
 use lib.Seq.{set-set}
 use Rattle.ring.specs.declared.Point.{Point}
-use Rattle.ring.specs.Grid.{vertices, someBeyond}
+use Rattle.ring.specs.Grid.{someBeyond}
 use Rattle.districts.specs.Register.{unused, ring, Register}
 use Rattle.districts.specs.Lists.{outlineSize, size, meaning}
 use Rattle.districts.specs.WellFormed.{total, wellFormed}
-use Rattle.changes.specs.Writing.{numbersOf, behind, entered, Added, Divided}
+use Rattle.changes.specs.Writing.{numbersOf, Added, Divided}
 use Rattle.changes.proofs.Forms.{sound}
 use Rattle.changes.proofs.Written.{numbers-length, vertices-numbers}
 use Rattle.changes.proofs.Entering.{entered-outline, entered-other-size, added-total, entered-well-formed, entered-meaning}
@@ -97,6 +96,6 @@ module _ (outline store : List ℤ) (runs : List ℕ) (d e : ℕ) (one two : Lis
   divided-meaning =
       added-meaning outline (v .store₂) (v .runs₂) e two store′ runs′ good₂ some₂ other free₂ (least .1) room₂ (grid .1) (v .second)
       ∙ ap (λ h. given h e two) (
-          added-meaning outline (v .store₁) (v .runs₁) d one (v .store₂) (v .runs₂) good₁ some₁ below (v .left .gone) (least .0) room₁ (grid .0) (v .first)
-          ∙ ap (λ h. given h d one) (left-meaning outline store runs d (v .store₁) (v .runs₁) good below used (v .left))
-          ∙ (λ i. record { outline = g .outline; districts = set-set (g .districts) d unused (ring one) i }))
+      added-meaning outline (v .store₁) (v .runs₁) d one (v .store₂) (v .runs₂) good₁ some₁ below (v .left .gone) (least .0) room₁ (grid .0) (v .first)
+      ∙ ap (λ h. given h d one) (left-meaning outline store runs d (v .store₁) (v .runs₁) good below used (v .left))
+      ∙ (λ i. record { outline = g .outline; districts = set-set (g .districts) d unused (ring one) i }))

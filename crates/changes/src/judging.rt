@@ -1,7 +1,7 @@
 // Whether a change is refused, and why: document 01's tests in its order, each asked once the earlier ones have passed.
-use crate::splitting;
 use crate::Changed;
 use crate::Refusal;
+use crate::splitting;
 use districts::MOST_VERTICES;
 use districts::NUMBERS;
 ghost use mathlib.Core.Path.{_≡_};
@@ -84,7 +84,15 @@ fn cut(runs: &[u32], n: usize, i: usize, j: usize, path: &[i32]) -> Changed
 }
 
 // Whether the split is refused, and why; otherwise the number that the new piece takes.
-pub fn split(outline: &[i32], store: &[i32], runs: &[u32], d: usize, i: usize, j: usize, path: &[i32]) -> Changed
+pub fn split(
+    outline: &[i32],
+    store: &[i32],
+    runs: &[u32],
+    d: usize,
+    i: usize,
+    j: usize,
+    path: &[i32],
+) -> Changed
     ensures { λ r. ⌜ answerOf r ≡ answers (verdict (splitTests (wellFormed (now (outline .entry)) (now (store .entry)) (now (runs .entry))) (meaning (now (outline .entry)) (now (store .entry)) (now (runs .entry))) d i j (now (path .entry)))) (lowestUnused (meaning (now (outline .entry)) (now (store .entry)) (now (runs .entry)))) ⌝ }
 {
     if !districts::well_formed(outline, store, runs) {

@@ -1,8 +1,8 @@
 // Splitting a district: its run leaves the store, and the two pieces are written from the first free place on.
+use crate::Changed;
 use crate::judging;
 use crate::pieces;
 use crate::room;
-use crate::Changed;
 ghost use mathlib.Core.Path.{_≡_};
 ghost use mathlib.Core.List.{_++_, reverse};
 ghost use Prim.Native.Nat.{_+_, _%_, _<_, _≤_};
@@ -110,7 +110,15 @@ fn divide(
 }
 
 // The district's ring is read before its room is closed.
-fn perform(store: &mut [i32], runs: &mut [u32], d: usize, e: usize, i: usize, j: usize, path: &[i32]) -> Changed
+fn perform(
+    store: &mut [i32],
+    runs: &mut [u32],
+    d: usize,
+    e: usize,
+    i: usize,
+    j: usize,
+    path: &[i32],
+) -> Changed
     requires { ⌜ (length (now store) ≡ 4096) × (length (now runs) ≡ 129) × (d < 64) × (e < 64) ⌝ }
     requires { ⌜ firstPlace (now runs) d + sizeOf (now runs) d ≤ totalOf (now runs) ⌝ }
     requires { ⌜ (i < sizeOf (now runs) d) × (j < sizeOf (now runs) d) × (i ≡ j → ⊥) ⌝ }
@@ -124,12 +132,31 @@ fn perform(store: &mut [i32], runs: &mut [u32], d: usize, e: usize, i: usize, j:
     let to = from + many;
     let mut ring = [0i32; districts::STORE_LENGTH];
     pieces::write_run(&mut ring, &store[from..to], n, 0, n);
-    divide(store, runs, d, e, &ring[0..many], n, i, j, path, path.len() / 2);
+    divide(
+        store,
+        runs,
+        d,
+        e,
+        &ring[0..many],
+        n,
+        i,
+        j,
+        path,
+        path.len() / 2,
+    );
     Changed::Done(e)
 }
 
 // Splits district d from vertex i to vertex j along a path; answers the number of the new district.
-pub fn split(outline: &[i32], store: &mut [i32], runs: &mut [u32], d: usize, i: usize, j: usize, path: &[i32]) -> Changed
+pub fn split(
+    outline: &[i32],
+    store: &mut [i32],
+    runs: &mut [u32],
+    d: usize,
+    i: usize,
+    j: usize,
+    path: &[i32],
+) -> Changed
     ensures { λ r. ⌜ SplitBy r d i j (now (path .entry)) (record { outline = now (outline .entry); store = now (store .entry); runs = now (runs .entry) }) (record { outline = now (outline .entry); store = now (store .exit); runs = now (runs .exit) }) ⌝ }
 {
     let verdict = judging::split(outline, store, runs, d, i, j, path);

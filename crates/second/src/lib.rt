@@ -1,12 +1,8 @@
 // Where a point lies against a closed ring, found a second way, to be compared with the first: the ring is covered by
-// triangles from a common origin to each edge, as Jiménez, Feito and Segura do. On it stands a second register, of separate
-// rows, and a second test of a packed one. It knows nothing of the other crates. Proved safe and ending for all input; its
-// answers are compared and not proved. No public function has a `requires`.
-mod packed;
+// triangles from a common origin to each edge, as Jiménez, Feito and Segura do. It knows nothing of the other crates.
+// Proved safe and ending for every list and point; its answers are compared and not proved. `locate` has no `requires`.
 mod plane;
-pub mod rows;
 
-pub use packed::packed_well;
 use plane::Spot;
 
 // How far a number is from zero; here for whoever prints one.
@@ -48,28 +44,17 @@ struct HalfTurns {
 
 // Where (x, y) lies against the ring x0, y0, x1, y1, .. A corner comes before a side, and the lowest index counts.
 pub fn locate(ring: &[i32], x: i32, y: i32) -> Where {
-    let n = ring_size(ring);
-    if n == 0 {
+    let n = ring.len() / 2;
+    if (ring.len() % 2 == 1) | (n < FEWEST_VERTICES) {
+        return Where::Refused(NO_RING);
+    }
+    if MOST_VERTICES < n {
         return Where::Refused(NO_RING);
     }
     if !(all_on_grid(ring) & plane::on_grid(x) & plane::on_grid(y)) {
         return Where::Refused(BEYOND_GRID);
     }
     against(ring, n, plane::spot_at(x, y))
-}
-
-// How many vertices the ring has that is listed, or 0 if the list's length is no ring's.
-fn ring_size(list: &[i32]) -> usize
-    ensures { λ n. ⌜ (n ≤ 2048) × (n + n ≤ length (now (list .entry))) ⌝ }
-{
-    let n = list.len() / 2;
-    if (list.len() % 2 == 1) | (n < FEWEST_VERTICES) {
-        return 0;
-    }
-    if MOST_VERTICES < n {
-        return 0;
-    }
-    n
 }
 
 fn all_on_grid(list: &[i32]) -> bool {

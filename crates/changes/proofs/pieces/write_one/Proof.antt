@@ -1,3 +1,4 @@
+-- `changes::pieces::write_one` writes a run, then a path backwards behind it. Assumes nothing.
 use borrow.Author.Needs.{needs}
 use Rattle.ring.specs.Grid.{vertices}
 use Rattle.changes.specs.Runs.{run}

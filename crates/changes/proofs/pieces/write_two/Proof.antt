@@ -1,3 +1,4 @@
+-- `changes::pieces::write_two` writes two runs, one behind the other. Assumes nothing.
 use borrow.Author.Needs.{needs}
 use Rattle.ring.specs.Grid.{vertices}
 use Rattle.changes.specs.Runs.{run}

@@ -1,6 +1,7 @@
+-- `changes::splitting::perform` reads the district's ring before its room is closed. Assumes nothing.
 use Prim.Native.Nat.{_+_, _-_, _*_, _≤_}
 use native.Mathlib.Omega.{arith}
-use mathlib.Core.Path.{_≡_, refl, ap, subst, _∙_}
+use mathlib.Core.Path.{refl, ap, subst, _∙_}
 use lib.ListN.{length, take, drop}
 use borrow.Author.Needs.{needs}
 use Rattle.ring.specs.Grid.{vertices}
@@ -11,82 +12,58 @@ use Rattle.changes.specs.Writing.{Divided}
 use Rattle.changes.proofs.Written.{copied}
 use Rattle.changes.proofs.splitting.perform.Statement.{statement}
 use Rattle.changes.proofs.splitting.perform.Tie as tie
-use Rattle.changes.proofs.splitting.perform.Reads as reads
-use Rattle.changes.proofs.splitting.perform.Lts as lts
-use Rattle.changes.proofs.pieces.write_run.Reads as write-run-reads
-use Rattle.changes.proofs.splitting.divide.Reads as divide-reads
-use Rattle.districts.proofs.first_place.Reads as first-place-reads
-use Rattle.districts.proofs.size.Reads as size-reads
 
--- src/splitting.rt:119:9
 size-requires : tie.Need-size-requires
 size-requires c κs = search needs
 
--- src/splitting.rt:120:20
 first-place-requires : tie.Need-first-place-requires
 first-place-requires c κs = search needs
 
--- src/splitting.rt:120:16
 mul-from : tie.Need-mul-from
 mul-from c = search needs
 
--- src/splitting.rt:121:16
 mul-many : tie.Need-mul-many
 mul-many c = search needs
 
--- src/splitting.rt:122:14
 add-to : tie.Need-add-to
 add-to c = search needs
 
--- src/splitting.rt:124:23
 slice-aggregate-write-run : tie.Need-slice-aggregate-write-run
 slice-aggregate-write-run c = search needs
 
--- src/splitting.rt:124:34
 mul-write-run : tie.Need-mul-write-run
 mul-write-run c = search needs
 
--- src/splitting.rt:124:34
 sub-write-run : tie.Need-sub-write-run
 sub-write-run c = search needs
 
--- src/splitting.rt:124:34
 part-write-run-start : tie.Need-part-write-run-start
 part-write-run-start c = search needs
 
--- src/splitting.rt:124:34
 part-write-run-end : tie.Need-part-write-run-end
 part-write-run-end c = search needs
 
--- src/splitting.rt:124:5
 write-run-requires : tie.Need-write-run-requires
 write-run-requires c κs = search needs
 
--- src/splitting.rt:125:31
 sub-divide : tie.Need-sub-divide
 sub-divide c = search needs
 
--- src/splitting.rt:125:31
 part-divide-start : tie.Need-part-divide-start
 part-divide-start c = search needs
 
--- src/splitting.rt:125:31
 part-divide-end : tie.Need-part-divide-end
 part-divide-end c = search needs
 
--- src/splitting.rt:125:5
 divide-requires : tie.Need-divide-requires
 divide-requires c κs = search needs
 
--- src/splitting.rt:111:1
 same-length : tie.Need-same-length
 same-length c = search needs
 
--- src/splitting.rt:111:1
 same-length-2 : tie.Need-same-length-2
 same-length-2 c = search needs
 
--- src/splitting.rt:111:1
 returns : tie.Need-returns
 returns c =
     let done = c .before .before .before in

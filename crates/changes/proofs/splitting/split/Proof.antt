@@ -1,8 +1,7 @@
 -- `changes::splitting::split` performs what is not refused, and otherwise leaves the lists. Assumes nothing.
 use Prim.Native.Nat.{ℕ}
 use native.Mathlib.Omega.{arith}
-use mathlib.Core.Path.{_≡_, refl, sym, ap, subst, _∙_}
-use lib.IntN.{ℤ}
+use mathlib.Core.Path.{_≡_, sym, ap, subst, _∙_}
 use borrow.Author.Needs.{needs}
 use Rattle.ring.specs.Grid.{vertices}
 use Rattle.districts.specs.Lists.{firstPlace, size, part}
@@ -56,9 +55,10 @@ perform-requires c κs =
     let sure = facts (l .outline) (l .store) (l .runs) (a .d) (a .i) (a .j) (a .path .now) (g .accepted) in
     let f = free (l .outline) (l .store) (l .runs) (a .d) (a .i) (a .j) (a .path .now) (g .accepted) in
     let number = number-is s (judged .verdict .given .0 .0) g in
-    let below = f .number in
-    ((sure .store-length, sure .runs-length, split-below (l .outline) (l .store) (l .runs) (a .d) (a .i) (a .j) (a .path .now) (g .accepted), omega (arith, number, below)),
-      (fits (l .outline) (l .store) (l .runs) (a .d) (a .i) (a .j) (a .path .now) (g .accepted), ((f .lower, f .other, f .differ), (f .even, f .room))))
+    let below = f .number in (
+      (sure .store-length, sure .runs-length, split-below (l .outline) (l .store) (l .runs) (a .d) (a .i) (a .j) (a .path .now) (g .accepted), omega (arith, number, below)),
+      (fits (l .outline) (l .store) (l .runs) (a .d) (a .i) (a .j) (a .path .now) (g .accepted), ((f .lower, f .other, f .differ), (f .even, f .room))),
+    )
 
 enum-told : tie.Need-enum-told
 enum-told c = search needs
@@ -83,8 +83,8 @@ returns c =
     let after : Lists = record { outline = l .outline; store = last .perform .last .0; runs = last .perform .last .1 .0 } in
     let divided = subst (λ k. Divided (l .store) (l .runs) (a .d) k (pieceOne P (a .i) (a .j) W) (pieceTwo P (a .i) (a .j) W) (last .perform .last .0) (last .perform .last .1 .0)) (number-is s e g) (last .perform .ensures .1) in
     split-done (last .perform .result) (a .d) (a .i) (a .j) (a .path .now) l after e (last .perform .ensures .0) (g .accepted) (g .number)
-      (split-well-formed (l .outline) (l .store) (l .runs) (a .d) (a .i) (a .j) (a .path .now) (g .accepted) (last .perform .last .0) (last .perform .last .1 .0) divided)
-      (split-meaning (l .outline) (l .store) (l .runs) (a .d) (a .i) (a .j) (a .path .now) (g .accepted) (last .perform .last .0) (last .perform .last .1 .0) divided)
+    (split-well-formed (l .outline) (l .store) (l .runs) (a .d) (a .i) (a .j) (a .path .now) (g .accepted) (last .perform .last .0) (last .perform .last .1 .0) divided)
+    (split-meaning (l .outline) (l .store) (l .runs) (a .d) (a .i) (a .j) (a .path .now) (g .accepted) (last .perform .last .0) (last .perform .last .1 .0) divided)
 
 same-length-3 : tie.Need-same-length-3
 same-length-3 c = search needs
