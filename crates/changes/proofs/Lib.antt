@@ -10,3 +10,4 @@ pub mod Judged
 pub mod Grids
 pub mod Accepted
 pub mod Outcomes
+pub mod Unique

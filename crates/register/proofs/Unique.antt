@@ -31,7 +31,7 @@ pub record Same (r s : Founded) (after after′ : Lists) : Type 0 where
   pub meaning : means after ≡ means after′
   pub form : formed after ≡ formed after′
 
-both-left : (v w : Verdict) → v ≡ w → (g : Register) (before after after′ : Lists) → Leaves v g before after → Leaves w g before after′ → (means after ≡ means after′) × (formed after ≡ formed after′)
+pub both-left : (v w : Verdict) → v ≡ w → (g : Register) (before after after′ : Lists) → Leaves v g before after → Leaves w g before after′ → (means after ≡ means after′) × (formed after ≡ formed after′)
 both-left accept accept e g before after after′ l m = (l .1 ∙ sym (m .1), l .0 ∙ sym (m .0))
 both-left accept (refuse n) e g before after after′ l m = let clash : _≡_ {A = ℕ} 0 1 = cc in absurd (let f : ⊥ = omega arith in f)
 both-left (refuse n) accept e g before after after′ l m = let clash : _≡_ {A = ℕ} 0 1 = cc in absurd (let f : ⊥ = omega arith in f)
