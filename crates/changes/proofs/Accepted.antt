@@ -19,17 +19,19 @@ use Rattle.register.specs.Verdict.{accept, verdict}
 use Rattle.register.proofs.Rooms.{outline-in-use}
 use Rattle.register.proofs.Verdicts.{accepted}
 use Rattle.ring.proofs.Search.{lowest-is}
-use Rattle.changes.specs.Runs.{steps, verticesOf}
+use Rattle.room.specs.Runs.{steps, verticesOf}
 use Rattle.changes.specs.Splitting.{pieceOne, pieceTwo, splitTests, split}
 use Rattle.changes.specs.Judging.{lowestFree}
-use Rattle.changes.specs.Writing.{numbersOf, Divided}
-use Rattle.changes.proofs.Forms.{Sound, sound}
-use Rattle.changes.proofs.Written.{numbers-append, numbers-vertices}
-use Rattle.changes.proofs.Parts.{append-on-grid}
+use Rattle.room.specs.Writing.{numbersOf}
+use Rattle.changes.specs.Performing.{Divided}
+use Rattle.room.proofs.Forms.{Sound, sound}
+use Rattle.room.proofs.Written.{numbers-append, numbers-vertices}
+use Rattle.room.proofs.Parts.{append-on-grid}
 use Rattle.changes.proofs.Grids.{run-on-grid, reverse-on-grid}
 use Rattle.changes.proofs.Sums.{steps-round}
 use Rattle.changes.proofs.Judged.{used-is, used-below, ring-of, one-long, two-long, free-is, tests-are}
-use Rattle.changes.proofs.Splits.{given, divided-well-formed, divided-meaning}
+use Rattle.changes.proofs.Splits.{divided-well-formed, divided-meaning}
+use Rattle.room.proofs.Additions.{given}
 
 -- what an acceptance tells of the lists' numbers
 pub record Free (runs : List ℕ) (d i j : ℕ) (path : List ℤ) : Type 0 where

@@ -10,10 +10,10 @@ use Rattle.ring.specs.Grid.{beyond, someBeyond, vertices}
 use Rattle.ring.specs.Rings.{at}
 use Rattle.ring.proofs.Pick.{neither-left, neither-right}
 use Rattle.ring.proofs.Vertices.{origin}
-use Rattle.changes.specs.Runs.{run}
-use Rattle.changes.specs.Writing.{numbersOf}
-use Rattle.changes.proofs.Written.{numbers-append}
-use Rattle.changes.proofs.Parts.{append-on-grid}
+use Rattle.room.specs.Runs.{run}
+use Rattle.room.specs.Writing.{numbersOf}
+use Rattle.room.proofs.Written.{numbers-append}
+use Rattle.room.proofs.Parts.{append-on-grid}
 
 abbrev OnGrid : Point → Type 0
 OnGrid p = (beyond (p .x) ≡ false) × (beyond (p .y) ≡ false)

@@ -20,11 +20,11 @@ use Rattle.districts.proofs.Meaning.{unused-when, ring-when, slot-is}
 use Rattle.register.specs.Verdict.{_if_}
 use Rattle.register.proofs.Runs.{part-length}
 use Rattle.register.specs.Sorting.{inUse}
-use Rattle.changes.specs.Runs.{run, steps, verticesOf}
+use Rattle.room.specs.Runs.{run, steps, verticesOf}
 use Rattle.changes.specs.Splitting.{pieceOne, pieceTwo, lowestUnused, vertexCount, splitTests}
 use Rattle.changes.specs.Judging.{lowestFree, cutTests}
-use Rattle.changes.proofs.Forms.{Sound, sound}
-use Rattle.changes.proofs.Written.{run-length}
+use Rattle.room.proofs.Forms.{Sound, sound}
+use Rattle.room.proofs.Written.{run-length}
 
 -- a number over at the end makes no vertex
 pub vertices-half : (xs : List ℤ) → length (vertices xs) ≡ length xs / 2

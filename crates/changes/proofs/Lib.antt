@@ -1,8 +1,3 @@
-pub mod Written
-pub mod Forms
-pub mod Parts
-pub mod Entering
-pub mod Leaving
 pub mod Sums
 pub mod Splits
 pub mod Answers

@@ -19,7 +19,7 @@ use Rattle.ring.proofs.Vertices.{origin}
 use Rattle.ring.proofs.Sums.{total-split, along, along-append, along-reverse, ringSum-along}
 use Rattle.districts.proofs.Tests.{both-left, both-right}
 use Rattle.districts.proofs.Counting.{all-each}
-use Rattle.changes.specs.Runs.{run, steps}
+use Rattle.room.specs.Runs.{run, steps}
 use Rattle.changes.specs.Splitting.{pieceOne, pieceTwo}
 use Rattle.changes.specs.Merging.{matches, merged}
 

@@ -9,7 +9,7 @@ use Rattle.ring.specs.Grid.{someBeyond}
 use Rattle.ring.specs.Locate.{lowest}
 use Rattle.districts.specs.Lists.{size}
 use Rattle.register.specs.Verdict.{Test, _if_}
-use Rattle.changes.specs.Runs.{steps}
+use Rattle.room.specs.Runs.{steps}
 
 -- the lowest number whose size is 0, 64 where there is none
 abbrev pub lowestFree : List ℕ → ℕ

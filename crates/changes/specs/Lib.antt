@@ -1,6 +1,5 @@
-pub mod Runs
 pub mod Splitting
 pub mod Merging
-pub mod Writing
+pub mod Performing
 pub mod Judging
 pub mod Calls

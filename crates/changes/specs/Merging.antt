@@ -11,7 +11,7 @@ use Rattle.districts.specs.Counts.{allTo}
 use Rattle.districts.specs.Register.{unused, ring, Register, slot}
 use Rattle.register.specs.Verdict.{Test, _if_}
 use Rattle.register.specs.Sorting.{inUse}
-use Rattle.changes.specs.Runs.{run, verticesOf}
+use Rattle.room.specs.Runs.{run, verticesOf}
 
 -- A(a+t) = B(b-t) for t = 0 .. k
 unfoldable pub matches : List Point → ℕ → List Point → ℕ → ℕ → Bool

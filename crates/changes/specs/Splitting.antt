@@ -12,7 +12,7 @@ use Rattle.districts.specs.Counts.{sumTo}
 use Rattle.districts.specs.Register.{ring, Register, numbers, slot}
 use Rattle.register.specs.Verdict.{Test, _if_}
 use Rattle.register.specs.Sorting.{inUse}
-use Rattle.changes.specs.Runs.{run, steps, verticesOf}
+use Rattle.room.specs.Runs.{run, steps, verticesOf}
 
 -- Pi, P(i+1), .., Pj, then Wk, .., W1
 abbrev pub pieceOne : List Point → ℕ → ℕ → List Point → List Point

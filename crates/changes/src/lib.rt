@@ -1,7 +1,5 @@
 // Splitting and merging districts over three lent lists. No public call has a `requires`; a refused call changes nothing.
 mod judging;
-mod pieces;
-mod room;
 mod splitting;
 
 pub use splitting::split;

@@ -1,8 +1,6 @@
 // Splitting a district: its run leaves the store, and the two pieces are written from the first free place on.
 use crate::Changed;
 use crate::judging;
-use crate::pieces;
-use crate::room;
 ghost use mathlib.Core.Path.{_≡_};
 ghost use mathlib.Core.List.{_++_, reverse};
 ghost use Prim.Native.Nat.{_+_, _%_, _<_, _≤_};
@@ -11,9 +9,9 @@ ghost use Rattle.ring.specs.Grid.{vertices};
 ghost use Rattle.districts.specs.Lists.{firstPlace, size as sizeOf, part};
 ghost use Rattle.districts.specs.WellFormed.{total as totalOf};
 ghost use Rattle.changes.specs.declared.Changed.the-variants.{Done};
-ghost use Rattle.changes.specs.Runs.{run, steps as stepsOf};
+ghost use Rattle.room.specs.Runs.{steps as stepsOf};
 ghost use Rattle.changes.specs.Splitting.{pieceOne, pieceTwo};
-ghost use Rattle.changes.specs.Writing.{Added, Divided};
+ghost use Rattle.changes.specs.Performing.{Divided};
 ghost use Rattle.changes.specs.Calls.{SplitBy};
 
 // How many edges lead from vertex i forward to vertex j, of a ring of n.
@@ -27,59 +25,6 @@ pub fn steps(n: usize, i: usize, j: usize) -> usize
         return j - i;
     }
     j + n - i
-}
-
-// Number e takes piece one, written behind all rings.
-fn add_one(
-    store: &mut [i32],
-    runs: &mut [u32],
-    e: usize,
-    ring: &[i32],
-    n: usize,
-    i: usize,
-    c: usize,
-    path: &[i32],
-    k: usize,
-)
-    requires { ⌜ (length (now store) ≡ 4096) × (length (now runs) ≡ 129) × (e < 64) ⌝ }
-    requires { ⌜ length (now ring) ≡ n + n ⌝ }
-    requires { ⌜ (i ≤ n) × (c ≤ n) ⌝ }
-    requires { ⌜ length (now path) ≡ k + k ⌝ }
-    requires { ⌜ totalOf (now runs) + (c + k) ≤ 2048 ⌝ }
-    ensures { λ _. ⌜ Added (now (store .entry)) (now (runs .entry)) e (run (vertices (now (ring .entry))) i c ++ reverse (vertices (now (path .entry)))) (now (store .exit)) (now (runs .exit)) ⌝ }
-{
-    let free = districts::total(runs);
-    let from = 2 * free;
-    pieces::write_one(&mut store[from..], ring, n, i, c, path, k);
-    room::enter(runs, e, free, c + k);
-}
-
-// Number e takes a ring of two runs, written behind all rings.
-pub fn add_two(
-    store: &mut [i32],
-    runs: &mut [u32],
-    e: usize,
-    ring: &[i32],
-    n: usize,
-    i: usize,
-    c: usize,
-    other: &[i32],
-    m: usize,
-    j: usize,
-    k: usize,
-)
-    requires { ⌜ (length (now store) ≡ 4096) × (length (now runs) ≡ 129) × (e < 64) ⌝ }
-    requires { ⌜ length (now ring) ≡ n + n ⌝ }
-    requires { ⌜ (i ≤ n) × (c ≤ n) ⌝ }
-    requires { ⌜ length (now other) ≡ m + m ⌝ }
-    requires { ⌜ (j ≤ m) × (k ≤ m) ⌝ }
-    requires { ⌜ totalOf (now runs) + (c + k) ≤ 2048 ⌝ }
-    ensures { λ _. ⌜ Added (now (store .entry)) (now (runs .entry)) e (run (vertices (now (ring .entry))) i c ++ run (vertices (now (other .entry))) j k) (now (store .exit)) (now (runs .exit)) ⌝ }
-{
-    let free = districts::total(runs);
-    let from = 2 * free;
-    pieces::write_two(&mut store[from..], ring, n, i, c, other, m, j, k);
-    room::enter(runs, e, free, c + k);
 }
 
 // District d leaves, then takes piece one of the ring it had; number e takes piece two.
@@ -105,8 +50,8 @@ fn divide(
     let one = 1 + steps(n, i, j);
     let two = 1 + steps(n, j, i);
     room::remove(store, runs, d);
-    add_one(store, runs, d, ring, n, i, one, path, k);
-    add_two(store, runs, e, ring, n, j, two, path, k, 0, k);
+    room::add_one(store, runs, d, ring, n, i, one, path, k);
+    room::add_two(store, runs, e, ring, n, j, two, path, k, 0, k);
 }
 
 // The district's ring is read before its room is closed.
@@ -131,7 +76,7 @@ fn perform(
     let many = 2 * n;
     let to = from + many;
     let mut ring = [0i32; districts::STORE_LENGTH];
-    pieces::write_run(&mut ring, &store[from..to], n, 0, n);
+    room::write_run(&mut ring, &store[from..to], n, 0, n);
     divide(
         store,
         runs,

@@ -3,6 +3,8 @@
 mod packing;
 mod runs;
 
+pub use runs::FIRST_PLACES;
+pub use runs::SIZES;
 pub use runs::first_place;
 pub use runs::outline_size;
 pub use runs::size;

@@ -7,9 +7,9 @@ ghost use Rattle.districts.specs.Lists.{outlineSize, firstPlace, size as
 ghost use Rattle.districts.specs.WellFormed.{sized, total as totalOf};
 
 // Where the first places and the numbers of vertices begin.
-const FIRST_PLACES: usize = 1;
+pub const FIRST_PLACES: usize = 1;
 
-const SIZES: usize = 65;
+pub const SIZES: usize = 65;
 
 const FEWEST_VERTICES: usize = 3;
 

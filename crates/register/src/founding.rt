@@ -1,6 +1,8 @@
 // Founding: the outline is stored, and district 0 is made with the same ring.
 use crate::Founded;
+use districts::FIRST_PLACES;
 use districts::Refusal;
+use districts::SIZES;
 ghost use mathlib.Core.Path.{_≡_};
 ghost use Prim.Native.Nat.{_≤_, _/_};
 ghost use lib.ListN.{length};
@@ -48,8 +50,8 @@ fn place(runs: &mut [u32], n: usize)
     ensures { λ _. ⌜ now (runs .exit) ≡ placed (now (runs .entry)) n ⌝ }
 {
     runs[0] = n as u32;
-    runs[1] = 0;
-    runs[65] = n as u32;
+    runs[FIRST_PLACES] = 0;
+    runs[SIZES] = n as u32;
 }
 
 fn write(outline: &mut [i32], store: &mut [i32], runs: &mut [u32], ring: &[i32]) -> Founded

@@ -7,7 +7,7 @@ use lib.Dec.{ltb}
 use lib.ListN.{length}
 use borrow.Author.Tests.{le-leb, lt-leb, lt-ltb, le-ltb}
 use Rattle.districts.specs.WellFormed.{total}
-use Rattle.changes.specs.Runs.{steps}
+use Rattle.room.specs.Runs.{steps}
 use Rattle.changes.specs.Judging.{lowestFree}
 use Rattle.changes.proofs.Answers.{answer-stops, answer-passes, answer-given}
 use borrow.Author.Needs.{needs}

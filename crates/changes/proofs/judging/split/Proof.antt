@@ -16,7 +16,7 @@ use Rattle.register.specs.Calls.{Lists, formed, means}
 use Rattle.register.proofs.Rooms.{outline-in-use}
 use Rattle.changes.specs.Judging.{lowestFree, cutTests}
 use Rattle.changes.specs.Calls.{answers}
-use Rattle.changes.proofs.Forms.{Sound, sound}
+use Rattle.room.proofs.Forms.{Sound, sound}
 use Rattle.changes.proofs.Answers.{answer-stops, answer-passes}
 use Rattle.changes.proofs.Judged.{used-is, free-is, tests-are}
 use Rattle.changes.proofs.judging.split.Statement.{statement}

@@ -7,12 +7,12 @@ use lib.ListN.{length}
 use borrow.Author.Needs.{needs}
 use Rattle.ring.specs.Grid.{vertices}
 use Rattle.ring.proofs.Vertices.{length-vertices}
-use Rattle.changes.specs.Runs.{run, steps}
-use Rattle.changes.specs.Writing.{Added}
-use Rattle.changes.proofs.Written.{run-all, one-length}
-use Rattle.changes.proofs.Entering.{added-total}
+use Rattle.room.specs.Runs.{run, steps}
+use Rattle.room.specs.Writing.{Added}
+use Rattle.room.proofs.Written.{run-all, one-length}
+use Rattle.room.proofs.Entering.{added-total}
 use Rattle.changes.proofs.Sums.{steps-round}
-use Rattle.changes.proofs.Leaving.{left-total}
+use Rattle.room.proofs.Leaving.{left-total}
 use Rattle.changes.proofs.splitting.divide.Statement.{statement}
 use Rattle.changes.proofs.splitting.divide.Tie as tie
 

@@ -8,8 +8,8 @@ use Rattle.ring.specs.Grid.{vertices}
 use Rattle.districts.specs.Lists.{part}
 use Rattle.register.proofs.Runs.{cut, part-length}
 use Rattle.changes.specs.Splitting.{pieceOne, pieceTwo}
-use Rattle.changes.specs.Writing.{Divided}
-use Rattle.changes.proofs.Written.{copied}
+use Rattle.changes.specs.Performing.{Divided}
+use Rattle.room.proofs.Written.{copied}
 use Rattle.changes.proofs.splitting.perform.Statement.{statement}
 use Rattle.changes.proofs.splitting.perform.Tie as tie
 

@@ -9,7 +9,7 @@ use Rattle.register.specs.Verdict.{accept, verdict}
 use Rattle.register.specs.Calls.{Lists, formed, means}
 use Rattle.changes.specs.Splitting.{pieceOne, pieceTwo, lowestUnused, splitTests}
 use Rattle.changes.specs.Judging.{lowestFree}
-use Rattle.changes.specs.Writing.{Divided}
+use Rattle.changes.specs.Performing.{Divided}
 use Rattle.changes.specs.Calls.{answerOf}
 use Rattle.changes.proofs.Judged.{free-is}
 use Rattle.changes.proofs.Accepted.{right, facts, free, fits, split-below, split-well-formed, split-meaning}
