@@ -9,10 +9,10 @@ use lib.Dec.{eqb, leb, ltb}
 use lib.IntN.{ℤ}
 use lib.ListN.{length, length-append, length-reverse, List·getD-eq-default}
 use Rattle.ring.specs.declared.Point.{Point}
-use Rattle.ring.specs.Grid.{pick, vertices, someBeyond}
+use Rattle.ring.specs.Grid.{vertices, someBeyond}
 use Rattle.ring.specs.Locate.{lowest}
 use Rattle.ring.proofs.Vertices.{length-vertices}
-use Rattle.districts.specs.Register.{unused, ring, slot}
+use Rattle.districts.specs.Register.{slot}
 use Rattle.districts.specs.Lists.{firstPlace, size, part, meaning}
 use Rattle.districts.specs.WellFormed.{total, wellFormed}
 use Rattle.districts.proofs.Sums.{sum-same}
@@ -20,6 +20,7 @@ use Rattle.districts.proofs.Meaning.{unused-when, ring-when, slot-is}
 use Rattle.register.specs.Verdict.{_if_}
 use Rattle.register.proofs.Runs.{part-length}
 use Rattle.register.specs.Sorting.{inUse}
+use Rattle.register.proofs.Rooms.{held-in-use}
 use Rattle.room.specs.Runs.{run, steps, verticesOf}
 use Rattle.changes.specs.Splitting.{pieceOne, pieceTwo, lowestUnused, vertexCount, splitTests}
 use Rattle.changes.specs.Judging.{lowestFree, cutTests}
@@ -63,11 +64,7 @@ module _ (outline store : List ℤ) (runs : List ℕ) (good : wellFormed outline
   ]
 
   pub used-is : (d : ℕ) → inUse (slot (meaning outline store runs) d) ≡ not (eqb (size runs d) 0)
-  used-is d = ap inUse (slot-is outline store runs (s .runs-length) d) ∙ say (eqb (size runs d) 0)
-    where
-      say : (b : Bool) → inUse (pick b unused (ring (vertices (part store (firstPlace runs d) (size runs d))))) ≡ not b
-      say true = refl
-      say false = refl
+  used-is d = ap inUse (slot-is outline store runs (s .runs-length) d) ∙ held-in-use store (firstPlace runs d) (size runs d)
 
   unused-is : (d : ℕ) → not (inUse (slot (meaning outline store runs) d)) ≡ eqb (size runs d) 0
   unused-is d = ap not (used-is d) ∙ say (eqb (size runs d) 0)

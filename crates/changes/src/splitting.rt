@@ -2,7 +2,6 @@
 use crate::Changed;
 use crate::judging;
 ghost use mathlib.Core.Path.{_≡_};
-ghost use mathlib.Core.List.{_++_, reverse};
 ghost use Prim.Native.Nat.{_+_, _%_, _<_, _≤_};
 ghost use lib.ListN.{length};
 ghost use Rattle.ring.specs.Grid.{vertices};
@@ -71,19 +70,15 @@ fn perform(
     requires { ⌜ totalOf (now runs) + 2 + length (now path) ≤ 2048 ⌝ }
     ensures { λ r. ⌜ (r ≡ Done e) × Divided (now (store .entry)) (now (runs .entry)) d e (pieceOne (vertices (part (now (store .entry)) (firstPlace (now (runs .entry)) d) (sizeOf (now (runs .entry)) d))) i j (vertices (now (path .entry)))) (pieceTwo (vertices (part (now (store .entry)) (firstPlace (now (runs .entry)) d) (sizeOf (now (runs .entry)) d))) i j (vertices (now (path .entry)))) (now (store .exit)) (now (runs .exit)) ⌝ }
 {
-    let n = districts::size(runs, d);
-    let from = 2 * districts::first_place(runs, d);
-    let many = 2 * n;
-    let to = from + many;
     let mut ring = [0i32; districts::STORE_LENGTH];
-    room::write_run(&mut ring, &store[from..to], n, 0, n);
+    let many = room::read(&mut ring, store, runs, d);
     divide(
         store,
         runs,
         d,
         e,
         &ring[0..many],
-        n,
+        many / 2,
         i,
         j,
         path,

@@ -10,7 +10,7 @@ use lib.IntN.{ℤ}
 use Rattle.ring.specs.declared.Point.{Point}
 use Rattle.ring.specs.Grid.{pick, vertices}
 use Rattle.districts.specs.Register.{unused, ring}
-use Rattle.districts.specs.Lists.{outlineSize, firstPlace, size, part, district, meaning}
+use Rattle.districts.specs.Lists.{outlineSize, firstPlace, size, part, held, district, meaning}
 use Rattle.districts.specs.WellFormed.{total, counted, wellFormed}
 use Rattle.districts.proofs.Sound.{allowed-size, size-most, district-sized, total-most, right-counts, store-length, runs-length, run-inside, store-on-grid}
 use Rattle.districts.proofs.Meaning.{slot-is, part-on-grid}
@@ -48,11 +48,14 @@ module _ (outline store : List ℤ) (runs : List ℕ) (good : wellFormed outline
       let slots = slot-is outline store runs (runs-length outline store runs good) in
       λ i. sortedBy (λ d. ofSlot rests R (sym (slots d) i)) (λ d. ofSlot winds R (sym (slots d) i))
 
--- there is an outline exactly if it has vertices
-pub outline-in-use : (outline store : List ℤ) (runs : List ℕ) → inUse (meaning outline store runs .outline) ≡ not (eqb (outlineSize runs) 0)
-unfolding meaning
-outline-in-use outline store runs = say (eqb (outlineSize runs) 0)
+-- a ring is held exactly if it has vertices
+pub held-in-use : (xs : List ℤ) (place n : ℕ) → inUse (held xs place n) ≡ not (eqb n 0)
+held-in-use xs place n = say (eqb n 0)
   where
-    say : (b : Bool) → inUse (pick b unused (ring (vertices (part outline 0 (outlineSize runs))))) ≡ not b
+    say : (b : Bool) → inUse (pick b unused (ring (vertices (part xs place n)))) ≡ not b
     say true = refl
     say false = refl
+
+pub outline-in-use : (outline store : List ℤ) (runs : List ℕ) → inUse (meaning outline store runs .outline) ≡ not (eqb (outlineSize runs) 0)
+unfolding meaning
+outline-in-use outline store runs = held-in-use outline 0 (outlineSize runs)

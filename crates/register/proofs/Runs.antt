@@ -5,13 +5,9 @@ use mathlib.Core.Path.{_≡_}
 use mathlib.Core.List.{List}
 use lib.IntN.{ℤ}
 use lib.ListN.{length, take, drop, length-take, length-drop}
-use borrow.Author.Tests.{eq-eqb, ne-eqb}
 use Rattle.ring.specs.declared.Point.{Point}
-use Rattle.ring.specs.Grid.{vertices}
 use Rattle.ring.specs.Walk.{OnGrid, Ready}
-use Rattle.ring.proofs.Pick.{pick-true, pick-false}
-use Rattle.districts.specs.Register.{unused, ring}
-use Rattle.districts.specs.Lists.{firstPlace, size, part, district}
+use Rattle.districts.specs.Lists.{firstPlace, size, part}
 use Rattle.register.specs.Calls.{Room}
 
 -- the part as the code cuts it
@@ -23,13 +19,6 @@ cut xs f n =
 
 pub part-length : (xs : List ℤ) (f n : ℕ) → f + n + (f + n) ≤ length xs → length (part xs f n) ≡ n + n
 part-length xs f n h = simp (length-take, length-drop) (omega arith)
-
--- an unused number has no ring, any other the ring of its run
-pub district-unused : (store : List ℤ) (runs : List ℕ) (d : ℕ) → size runs d ≡ 0 → district store runs d ≡ unused
-district-unused store runs d e = pick-true (eq-eqb (size runs d) 0 e) _ _
-
-pub district-ring : (store : List ℤ) (runs : List ℕ) (d : ℕ) → (size runs d ≡ 0 → ⊥) → district store runs d ≡ ring (vertices (part store (firstPlace runs d) (size runs d)))
-district-ring store runs d e = pick-false (ne-eqb (size runs d) 0 e) _ _
 
 pub ready : (store : List ℤ) (runs : List ℕ) (r : Point) → Room store runs → (d : ℕ) → d < 64 → (size runs d ≡ 0 → ⊥) → OnGrid r → Ready (part store (firstPlace runs d) (size runs d)) (size runs d) r
 ready store runs r room d h k g =

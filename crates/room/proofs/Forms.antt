@@ -2,8 +2,8 @@
 use Prim.Native.Nat.{ℕ, _+_, _≤_, _<_}
 use native.Mathlib.Decide.{decLt, ℕ-discrete}
 use native.Mathlib.Omega.{arith}
-use mathlib.Core.Path.{_≡_, refl, sym, ap, _∙_}
-use mathlib.Core.Bool.{Bool, true, false, not, _&&_, _||_, or-true}
+use mathlib.Core.Path.{_≡_, sym, _∙_}
+use mathlib.Core.Bool.{Bool, true, false, not, _&&_, _||_}
 use mathlib.Core.List.{List}
 use mathlib.Core.Logic.{_⊎_, inl, inr}
 use lib.Dec.{eqb, leb}
@@ -15,7 +15,7 @@ use Rattle.districts.specs.Counts.{allTo}
 use Rattle.districts.specs.Lists.{outlineSize, firstPlace, size, part}
 use Rattle.districts.specs.WellFormed as WellFormed
 use Rattle.districts.specs.WellFormed.{sized, total, counted, packed, wellFormed}
-use Rattle.districts.proofs.Tests.{both-right}
+use Rattle.districts.proofs.Tests.{both-right, either, passes-left, passes-right}
 use Rattle.districts.proofs.Counting.{all-pass, all-each}
 use Rattle.districts.proofs.Sound as Known
 use Rattle.districts.proofs.Sound.{right-counts, right-packing, outline-sized, district-sized, total-most, none-without, run-inside, outline-on-grid, store-on-grid}
@@ -37,16 +37,6 @@ pub record Sound (outline store : List ℤ) (runs : List ℕ) : Type 0 where
   pub apart : (d e : ℕ) → d < 64 → e < 64 → (d ≡ e → ⊥) → 0 < size runs d → 0 < size runs e → Clear runs d e
   pub outline-grid : someBeyond (part outline 0 (outlineSize runs)) ≡ false
   pub store-grid : someBeyond (part store 0 (total runs)) ≡ false
-
-either : (a b : Bool) → (a || b) ≡ true → (a ≡ true) ⊎ (b ≡ true)
-either true b e = inl refl
-either false b e = inr e
-
-or-left : {a : Bool} → a ≡ true → (b : Bool) → (a || b) ≡ true
-or-left e b = ap (λ a. a || b) e
-
-or-right : (a : Bool) {b : Bool} → b ≡ true → (a || b) ≡ true
-or-right a e = ap (λ b. a || b) e ∙ or-true a
 
 -- ---- what a well-formed register tells
 
@@ -101,7 +91,7 @@ module _ (outline store : List ℤ) (runs : List ℕ) (good : wellFormed outline
 -- ---- what makes one
 
 pub size-allowed : (n : ℕ) → 3 ≤ n → n ≤ 2048 → sized n ≡ true
-size-allowed n least most = or-right (eqb n 0) (λ i. le-leb 3 n least i && le-leb n 2048 most i)
+size-allowed n least most = passes-right (eqb n 0) (λ i. le-leb 3 n least i && le-leb n 2048 most i)
 
 module _ {outline store : List ℤ} {runs : List ℕ} (s : Sound outline store runs) where
   shape : WellFormed.shaped outline store runs ≡ true
@@ -114,8 +104,8 @@ module _ {outline store : List ℤ} {runs : List ℕ} (s : Sound outline store r
   -- an outline, or no district
   backed : (leb 1 (outlineSize runs) || eqb (total runs) 0) ≡ true
   backed = elim (ℕ-discrete (outlineSize runs) 0) [
-    | yes none ↦ or-right (leb 1 (outlineSize runs)) (eq-eqb (total runs) 0 (s .beside none))
-    | no some ↦ or-left (le-leb 1 (outlineSize runs) (omega arith)) (eqb (total runs) 0)
+    | yes none ↦ passes-right (leb 1 (outlineSize runs)) (eq-eqb (total runs) 0 (s .beside none))
+    | no some ↦ passes-left (le-leb 1 (outlineSize runs) (omega arith)) (eqb (total runs) 0)
   ]
 
   counts : counted runs ≡ true
@@ -126,22 +116,22 @@ module _ {outline store : List ℤ} {runs : List ℕ} (s : Sound outline store r
 
   within : (d : ℕ) → d < 64 → WellFormed.inside runs (total runs) d ≡ true
   within d h = elim (ℕ-discrete (size runs d) 0) [
-    | yes none ↦ or-left (eq-eqb (size runs d) 0 none) _
-    | no some ↦ or-right (eqb (size runs d) 0) (le-leb _ _ (s .inside d h (omega arith)))
+    | yes none ↦ passes-left (eq-eqb (size runs d) 0 none) _
+    | no some ↦ passes-right (eqb (size runs d) 0) (le-leb _ _ (s .inside d h (omega arith)))
   ]
 
   alone : (d : ℕ) → d < 64 → (e : ℕ) → e < d → WellFormed.apart runs d e ≡ true
   alone d h e k = elim (ℕ-discrete (size runs d) 0) [
-    | yes none ↦ or-left (or-left (eq-eqb (size runs d) 0 none) _) _
+    | yes none ↦ passes-left (passes-left (eq-eqb (size runs d) 0 none) _) _
     | no some ↦ elim (ℕ-discrete (size runs e) 0) [
-      | yes none ↦ or-left (or-right (eqb (size runs d) 0) (eq-eqb (size runs e) 0 none)) _
-      | no other ↦ or-right (eqb (size runs d) 0 || eqb (size runs e) 0) (say (s .apart d e h (omega arith) (λ (f : d ≡ e). omega arith) (omega arith) (omega arith)))
+      | yes none ↦ passes-left (passes-right (eqb (size runs d) 0) (eq-eqb (size runs e) 0 none)) _
+      | no other ↦ passes-right (eqb (size runs d) 0 || eqb (size runs e) 0) (say (s .apart d e h (omega arith) (λ (f : d ≡ e). omega arith) (omega arith) (omega arith)))
     ]
   ]
     where
       say : Clear runs d e → (leb (firstPlace runs d + size runs d) (firstPlace runs e) || leb (firstPlace runs e + size runs e) (firstPlace runs d)) ≡ true
-      say (inl f) = or-left (le-leb _ _ f) _
-      say (inr f) = or-right (leb (firstPlace runs d + size runs d) (firstPlace runs e)) (le-leb _ _ f)
+      say (inl f) = passes-left (le-leb _ _ f) _
+      say (inr f) = passes-right (leb (firstPlace runs d + size runs d) (firstPlace runs e)) (le-leb _ _ f)
 
   packing : packed runs ≡ true
   packing =

@@ -15,8 +15,10 @@ use Rattle.ring.specs.declared.Point.{Point}
 use Rattle.ring.specs.Grid.{vertices}
 use Rattle.ring.specs.Rings.{at}
 use Rattle.ring.proofs.Vertices.{origin, length-vertices}
+use Rattle.districts.specs.Lists.{part}
 use Rattle.districts.specs.WellFormed.{total}
 use Rattle.register.specs.Calls.{written}
+use Rattle.register.proofs.Runs.{part-length}
 use Rattle.room.specs.Runs.{run}
 use Rattle.room.specs.Writing.{numbersOf, behind, entered, Added}
 
@@ -168,8 +170,13 @@ added store runs e P free f ys g runs′ m h k = let twice : 2 * free ≡ total 
 pub one-length : (P : List Point) (i c : ℕ) (path : List ℤ) (k : ℕ) → length path ≡ k + k → length (run P i c ++ reverse (vertices path)) ≡ c + k
 one-length P i c path k e = length-append (run P i c) (reverse (vertices path)) ∙ (λ t. run-length P i c t + (length-reverse (vertices path) ∙ length-vertices path k e) t)
 
--- a ring that was written whole is read back
-pub copied : (xs ring before : List ℤ) (n : ℕ) → length xs ≡ n + n → ring ≡ written (numbersOf (run (vertices xs) 0 n)) before → take (2 * n - 0) ring ≡ xs
-copied xs ring before n e f =
-    ap (take (2 * n - 0)) (f ∙ ap (λ P. written (numbersOf P) before) (run-all (vertices xs) n (length-vertices xs n e)) ∙ ap (λ l. written l before) (numbers-vertices xs n e))
-    ∙ take-at xs (drop (length xs) before) (2 * n - 0) (omega arith)
+-- once round from the first vertex, a ring's own numbers are written
+pub copied : (xs to₀ to : List ℤ) (n : ℕ) → length xs ≡ n + n → to ≡ written (numbersOf (run (vertices xs) 0 n)) to₀ → to ≡ written xs to₀
+copied xs to₀ to n e f =
+    f ∙ ap (λ P. written (numbersOf P) to₀) (run-all (vertices xs) n (length-vertices xs n e)) ∙ ap (λ l. written l to₀) (numbers-vertices xs n e)
+
+-- a ring that was written is read back
+pub read-back : (store : List ℤ) (f n : ℕ) → f + n + (f + n) ≤ length store → (to₀ to : List ℤ) → to ≡ written (part store f n) to₀ → (m : ℕ) → m ≡ n + n → take (m - 0) to ≡ part store f n
+read-back store f n h to₀ to e m k =
+    let long = part-length store f n h in
+    ap (take (m - 0)) e ∙ take-at (part store f n) (drop (length (part store f n)) to₀) (m - 0) (omega (arith, long))

@@ -7,5 +7,5 @@ mod removing;
 pub use adding::add_one;
 pub use adding::add_two;
 pub use pieces::around;
-pub use pieces::write_run;
+pub use pieces::read;
 pub use removing::remove;

@@ -5,6 +5,7 @@ ghost use Prim.Native.Nat.{_+_, _*_, _%_, _<_, _≤_};
 ghost use lib.ListN.{length, set};
 ghost use Rattle.ring.specs.Grid.{vertices};
 ghost use Rattle.register.specs.Calls.{written};
+ghost use Rattle.districts.specs.Lists.{firstPlace, size as sizeOf, part};
 ghost use Rattle.room.specs.Runs.{run};
 ghost use Rattle.room.specs.Writing.{numbersOf};
 use ring::Point;
@@ -44,6 +45,20 @@ pub fn write_run(to: &mut [i32], ring: &[i32], n: usize, i: usize, c: usize)
         put(to, k, ring::vertex(ring, around(i + k, n)));
         k += 1;
     }
+}
+
+// Writes the ring of number d to the first places of a list, and answers how many numbers that are.
+pub fn read(to: &mut [i32], store: &[i32], runs: &[u32], d: usize) -> usize
+    requires { ⌜ (length (now to) ≡ 4096) × (length (now store) ≡ 4096) × (length (now runs) ≡ 129) × (d < 64) ⌝ }
+    requires { ⌜ firstPlace (now runs) d + sizeOf (now runs) d ≤ 2048 ⌝ }
+    ensures { λ r. ⌜ (r ≡ sizeOf (now (runs .entry)) d + sizeOf (now (runs .entry)) d) × (now (to .exit) ≡ written (part (now (store .entry)) (firstPlace (now (runs .entry)) d) (sizeOf (now (runs .entry)) d)) (now (to .entry))) ⌝ }
+{
+    let n = districts::size(runs, d);
+    let from = 2 * districts::first_place(runs, d);
+    let many = 2 * n;
+    let end = from + many;
+    write_run(to, &store[from..end], n, 0, n);
+    many
 }
 
 // Writes a path of k points from its last point to its first.

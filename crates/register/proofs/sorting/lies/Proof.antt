@@ -7,8 +7,9 @@ use Rattle.ring.specs.Grid.{vertices}
 use Rattle.ring.specs.Locate.{locatedOn}
 use Rattle.ring.specs.Walk.{Ready}
 use Rattle.districts.specs.Lists.{firstPlace, size, part}
+use Rattle.districts.proofs.Meaning.{unused-when, ring-when}
 use Rattle.register.specs.Sorting.{rests, winds, ofSlot}
-use Rattle.register.proofs.Runs.{cut, ready, district-unused, district-ring}
+use Rattle.register.proofs.Runs.{cut, ready}
 use borrow.Author.Needs.{needs}
 use Rattle.register.proofs.sorting.lies.Statement.{statement}
 use Rattle.register.proofs.sorting.lies.Tie as tie
@@ -19,7 +20,7 @@ size-requires c κs = search needs
 returns : tie.Need-returns
 returns c =
     let start = c .before .before .before in
-    let nothing = district-unused (start .args .store .now) (start .args .runs .now) (start .args .d) (sym (c .before .size .ensures .0) ∙ c .if1 .taken) in
+    let nothing = unused-when (start .args .store .now) (firstPlace (start .args .runs .now) (start .args .d)) (size (start .args .runs .now) (start .args .d)) (sym (c .before .size .ensures .0) ∙ c .if1 .taken) in
     (sym (ap (ofSlot rests (start .args .r)) nothing), sym (ap (ofSlot winds (start .args .r)) nothing))
 
 -- the number is used
@@ -83,7 +84,7 @@ returns-2 c =
     let f = c .before .before .before .first-place .ensures .0 in
     let n = c .before .before .before .before .before .size .ensures .0 in
     let place = c .before .locate-on .ensures ∙ ap (λ xs. locatedOn (vertices xs) r) (cut store (c .before .before .before .first-place .result) (c .before .before .before .before .before .size .result) ∙ (λ i. part store (f i) (n i))) in
-    let its-ring = district-ring store runs (start .args .d) (used (c .before .before .before .before)) in
+    let its-ring = ring-when store (firstPlace runs (start .args .d)) (size runs (start .args .d)) (used (c .before .before .before .before)) in
     (c .lies-at .ensures .0 ∙ ap rests place ∙ sym (ap (ofSlot rests r) its-ring), c .lies-at .ensures .1 ∙ ap winds place ∙ sym (ap (ofSlot winds r) its-ring))
 
 pub lies-spec : {M : Type 1} → statement M
