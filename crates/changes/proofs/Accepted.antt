@@ -3,7 +3,7 @@ use Prim.Native.Nat.{ℕ, suc, _+_, _/_, _%_, _≤_, _<_}
 use native.Mathlib.Omega.{arith}
 use mathlib.Core.Path.{_≡_, refl, sym, ap, _∙_}
 use mathlib.Core.Bool.{true, false, _||_}
-use mathlib.Core.List.{List, _++_, reverse}
+use mathlib.Core.List.{List, reverse}
 use lib.Dec.{eqb, leb, ltb}
 use lib.IntN.{ℤ}
 use lib.ListN.{length}
@@ -14,7 +14,6 @@ use Rattle.ring.proofs.Pick.{neither-left, neither-right}
 use Rattle.districts.specs.Register.{slot}
 use Rattle.districts.specs.Lists.{outlineSize, firstPlace, size, part, meaning}
 use Rattle.districts.specs.WellFormed.{total, wellFormed}
-use Rattle.districts.proofs.Meaning.{part-on-grid}
 use Rattle.register.specs.Verdict.{accept, verdict}
 use Rattle.register.proofs.Rooms.{outline-in-use}
 use Rattle.register.proofs.Verdicts.{accepted}
@@ -25,11 +24,10 @@ use Rattle.changes.specs.Judging.{lowestFree}
 use Rattle.room.specs.Writing.{numbersOf}
 use Rattle.changes.specs.Performing.{Divided}
 use Rattle.room.proofs.Forms.{Sound, sound}
-use Rattle.room.proofs.Written.{numbers-append, numbers-vertices}
-use Rattle.room.proofs.Parts.{append-on-grid}
-use Rattle.changes.proofs.Grids.{run-on-grid, reverse-on-grid}
+use Rattle.room.proofs.Written.{numbers-vertices}
+use Rattle.changes.proofs.Grids.{run-on-grid, reverse-on-grid, both-on-grid}
 use Rattle.changes.proofs.Sums.{steps-round}
-use Rattle.changes.proofs.Judged.{used-is, used-below, ring-of, one-long, two-long, free-is, tests-are}
+use Rattle.changes.proofs.Judged.{used-is, used-below, ring-of, ring-on-grid, one-long, two-long, free-is, tests-are}
 use Rattle.changes.proofs.Splits.{divided-well-formed, divided-meaning}
 use Rattle.room.proofs.Additions.{given}
 
@@ -111,14 +109,11 @@ module _ (outline store : List ℤ) (runs : List ℕ) (d i j : ℕ) (path : List
   fits = let some = free .used in facts .inside d below (omega (arith, some))
 
   store-grid : someBeyond (part store (firstPlace runs d) (size runs d)) ≡ false
-  store-grid = part-on-grid store (firstPlace runs d) (size runs d) (total runs) fits (facts .store-grid)
+  store-grid = ring-on-grid outline store runs right d (free .used)
 
   path-grid : someBeyond (numbersOf W) ≡ false
   unfolding W
   path-grid = ap someBeyond (numbers-vertices path (length path / 2) (let e = free .even in omega (arith, e))) ∙ free .grid
-
-  both-on-grid : (Q R : List Point) → someBeyond (numbersOf Q) ≡ false → someBeyond (numbersOf R) ≡ false → someBeyond (numbersOf (Q ++ R)) ≡ false
-  both-on-grid Q R e f = ap someBeyond (numbers-append Q R) ∙ append-on-grid (numbersOf Q) (numbersOf R) e f
 
   grids : (someBeyond (numbersOf (pieceOne P i j W)) ≡ false) × (someBeyond (numbersOf (pieceTwo P i j W)) ≡ false)
   unfolding P

@@ -2,7 +2,7 @@
 use Prim.Native.Nat.{ℕ, zero, suc}
 use mathlib.Core.Path.{_≡_, refl, ap, _∙_}
 use mathlib.Core.Bool.{false, _||_}
-use mathlib.Core.List.{List, [], _∷_, reverse, reverse-cons}
+use mathlib.Core.List.{List, [], _∷_, _++_, reverse, reverse-cons}
 use lib.IntN.{ℤ}
 use Rattle.ring.specs.declared.Point.{Point}
 use Rattle.ring.specs.Grid.{beyond, someBeyond, vertices}
@@ -28,3 +28,6 @@ reverse-on-grid (p ∷ W) e =
     ap (λ Q. someBeyond (numbersOf Q)) (reverse-cons p W)
     ∙ ap someBeyond (numbers-append (reverse W) (p ∷ []))
     ∙ append-on-grid (numbersOf (reverse W)) (p .x ∷ p .y ∷ []) (reverse-on-grid W rest) own
+
+pub both-on-grid : (P Q : List Point) → someBeyond (numbersOf P) ≡ false → someBeyond (numbersOf Q) ≡ false → someBeyond (numbersOf (P ++ Q)) ≡ false
+both-on-grid P Q e f = ap someBeyond (numbers-append P Q) ∙ append-on-grid (numbersOf P) (numbersOf Q) e f

@@ -16,7 +16,7 @@ use Rattle.districts.specs.Register.{slot}
 use Rattle.districts.specs.Lists.{firstPlace, size, part, meaning}
 use Rattle.districts.specs.WellFormed.{total, wellFormed}
 use Rattle.districts.proofs.Sums.{sum-same}
-use Rattle.districts.proofs.Meaning.{unused-when, ring-when, slot-is}
+use Rattle.districts.proofs.Meaning.{unused-when, ring-when, slot-is, part-on-grid}
 use Rattle.register.specs.Verdict.{_if_}
 use Rattle.register.proofs.Runs.{part-length}
 use Rattle.register.specs.Sorting.{inUse}
@@ -54,10 +54,15 @@ module _ (outline store : List ℤ) (runs : List ℕ) (good : wellFormed outline
   pub ring-of : (d : ℕ) → (size runs d ≡ 0 → ⊥) → verticesOf (slot (meaning outline store runs) d) ≡ vertices (part store (firstPlace runs d) (size runs d))
   ring-of d some = ap verticesOf (slot-is outline store runs (s .runs-length) d ∙ ring-when store (firstPlace runs d) (size runs d) some)
 
+  pub ring-on-grid : (d : ℕ) → (size runs d ≡ 0 → ⊥) → someBeyond (part store (firstPlace runs d) (size runs d)) ≡ false
+  ring-on-grid d some =
+      let fits = s .inside d (used-below d some) (omega (arith, some)) in
+      part-on-grid store (firstPlace runs d) (size runs d) (total runs) fits (s .store-grid)
+
   abbrev ringOf : ℕ → List Point
   ringOf d = verticesOf (slot (meaning outline store runs) d)
 
-  length-of : (d : ℕ) → length (verticesOf (slot (meaning outline store runs) d)) ≡ size runs d
+  pub length-of : (d : ℕ) → length (verticesOf (slot (meaning outline store runs) d)) ≡ size runs d
   length-of d = elim (ℕ-discrete (size runs d) 0) [
     | yes none ↦ ap (λ t. length (verticesOf t)) (slot-is outline store runs (s .runs-length) d ∙ unused-when store (firstPlace runs d) (size runs d) none) ∙ sym none
     | no some ↦ ap length (ring-of d some) ∙ length-vertices (part store (firstPlace runs d) (size runs d)) (size runs d) (ring-numbers d some)

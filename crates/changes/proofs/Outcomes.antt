@@ -1,19 +1,15 @@
--- The two outcomes of a split, put together. Assumes nothing.
+-- The two outcomes of a change, put together. Assumes nothing.
 use Prim.Native.Nat.{ℕ}
 use native.Mathlib.Omega.{arith}
 use mathlib.Core.Path.{_≡_, refl, sym, ap, subst, _∙_}
 use mathlib.Core.Bool.{true}
-use mathlib.Core.List.{List}
-use lib.IntN.{ℤ}
-use Rattle.ring.specs.Grid.{vertices}
 use Rattle.districts.specs.Register.{Register}
-use Rattle.register.specs.Verdict.{Verdict, accept, refuse, verdict}
+use Rattle.register.specs.Verdict.{Verdict, accept, refuse}
 use Rattle.register.specs.Calls.{Lists, formed, means, Leaves}
 use Rattle.changes.specs.declared.Refusal.{Refusal}
 use Rattle.changes.specs.declared.Changed.{Changed}
 use Rattle.changes.specs.declared.Changed.the-variants.{Done, Refused}
-use Rattle.changes.specs.Splitting.{lowestUnused, splitTests, split}
-use Rattle.changes.specs.Calls.{numberOf, done, refused, answerOf, answers, SplitBy}
+use Rattle.changes.specs.Calls.{numberOf, done, refused, answerOf, answers, ChangedBy}
 
 -- a number is answered only where nothing is refused, and it is the one
 pub accepting : (v : Verdict) (n e : ℕ) → done e ≡ answers v n → (v ≡ accept) × (e ≡ n)
@@ -24,13 +20,12 @@ refusing : (v : Verdict) (n k : ℕ) (g : Register) (l : Lists) → refused k �
 refusing accept n k g l f = let clash : _≡_ {A = ℕ} 0 1 = cc in absurd (let f : ⊥ = omega arith in f)
 refusing (refuse m) n k g l f = refl
 
-module _ (r : Changed) (d i j : ℕ) (path : List ℤ) (l : Lists) where
-  pub split-done : (after : Lists) (e : ℕ) → r ≡ Done e → verdict (splitTests (formed l) (means l) d i j path) ≡ accept → e ≡ lowestUnused (means l)
-      → formed after ≡ true → means after ≡ split (means l) d i j (vertices path) → SplitBy r d i j path l after
-  split-done after e is granted number well sense = record {
-    said = ap answerOf is ∙ ap done number ∙ sym (ap (λ v. answers v (lowestUnused (means l))) granted);
-    left = subst (λ v. Leaves v (split (means l) d i j (vertices path)) l after) (sym granted) (well, sense);
+module _ (v : Verdict) (d : ℕ) (g : Register) (r : Changed) (l : Lists) where
+  pub change-done : (after : Lists) (e : ℕ) → r ≡ Done e → v ≡ accept → e ≡ d → formed after ≡ true → means after ≡ g → ChangedBy v d g r l after
+  change-done after e is granted number well sense = record {
+    said = ap answerOf is ∙ ap done number ∙ sym (ap (λ w. answers w d) granted);
+    left = subst (λ w. Leaves w g l after) (sym granted) (well, sense);
   }
 
-  pub split-refused : (q : Refusal) → r ≡ Refused q → answerOf r ≡ answers (verdict (splitTests (formed l) (means l) d i j path)) (lowestUnused (means l)) → SplitBy r d i j path l l
-  split-refused q is said = record { said = said; left = refusing (verdict (splitTests (formed l) (means l) d i j path)) (lowestUnused (means l)) (numberOf q) (split (means l) d i j (vertices path)) l (sym (ap answerOf is) ∙ said) }
+  pub change-refused : (q : Refusal) → r ≡ Refused q → answerOf r ≡ answers v d → ChangedBy v d g r l l
+  change-refused q is said = record { said = said; left = refusing v d (numberOf q) g l (sym (ap answerOf is) ∙ said) }

@@ -1,15 +1,20 @@
--- The tests of a split, asked of the numbers that the lists hold. No public promise cites it. Assumes nothing.
+-- The tests of a split, asked of the numbers that the lists hold, and those of a merge, asked of two slots. No public promise cites it.
+-- Assumes nothing.
 use Prim.Native.Nat.{ℕ, suc, _+_, _/_, _%_}
-use mathlib.Core.Bool.{_||_}
+use mathlib.Core.Bool.{not, _||_}
 use mathlib.Core.List.{List, [], _∷_}
 use lib.Dec.{eqb, leb, ltb}
 use lib.IntN.{ℤ}
 use lib.ListN.{length}
+use Rattle.ring.specs.declared.Point.{Point}
 use Rattle.ring.specs.Grid.{someBeyond}
 use Rattle.ring.specs.Locate.{lowest}
+use Rattle.districts.specs.Register.{Slot}
 use Rattle.districts.specs.Lists.{size}
 use Rattle.register.specs.Verdict.{Test, _if_}
-use Rattle.room.specs.Runs.{steps}
+use Rattle.register.specs.Sorting.{inUse}
+use Rattle.room.specs.Runs.{steps, verticesOf}
+use Rattle.changes.specs.Merging.{matches, merged}
 
 -- the lowest number whose size is 0, 64 where there is none
 abbrev pub lowestFree : List ℕ → ℕ
@@ -30,3 +35,18 @@ cutTests n all free i j path =
     ∷ (4 if eqb (length path % 2) 1)
     ∷ (5 if someBeyond path)
     ∷ roomTests n all free i j path
+
+-- refusals 8, 10, 9, of two rings
+abbrev pub borderTests : List Point → ℕ → List Point → ℕ → ℕ → List Test
+borderTests P a Q b k =
+    (8 if leb (length P) a || leb (length Q) b)
+    ∷ (10 if (eqb k 0 || (leb (length P) k || leb (length Q) k)) || not (matches P a Q b k))
+    ∷ (9 if ltb (length (merged P a Q b k)) 3)
+    ∷ []
+
+-- refusals 6, 7, of the slots of numbers A and B, then those
+abbrev pub pairTests : Slot → Slot → ℕ → ℕ → ℕ → ℕ → ℕ → List Test
+pairTests p q A a B b k =
+    (6 if not (inUse p) || not (inUse q))
+    ∷ (7 if eqb A B)
+    ∷ borderTests (verticesOf p) a (verticesOf q) b k

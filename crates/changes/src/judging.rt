@@ -17,7 +17,7 @@ ghost use Rattle.changes.specs.Judging.{lowestFree, roomTests, cutTests}
 ghost use Rattle.changes.specs.Calls.{answerOf, answers};
 
 // The fewest vertices of a ring.
-const LEAST_VERTICES: usize = 3;
+pub const LEAST_VERTICES: usize = 3;
 
 pub fn in_use(runs: &[u32], d: usize) -> bool
     requires { ⌜ length (now runs) ≡ 129 ⌝ }

@@ -1,7 +1,7 @@
 -- Points as numbers and back, the vertices of a run and of a path read backwards, and a list of points that is written one after the
 -- other. Assumes nothing.
-use Prim.Native.Nat.{ℕ, zero, suc, _+_, _-_, _*_, _≤_, _<_}
-use native.Mathlib.Nat.{add-zero, mod-eq-of-lt}
+use Prim.Native.Nat.{ℕ, zero, suc, _+_, _-_, _*_, _%_, _≤_, _<_}
+use native.Mathlib.Nat.{add-zero, mod-eq-of-lt, mod-add-mod}
 use native.Mathlib.Decide.{ℕ-discrete}
 use native.Mathlib.Numerals.{add-one}
 use native.Mathlib.Omega.{arith}
@@ -54,6 +54,22 @@ unfolding run
 run-at P i zero t h = absurd (let f : ⊥ = omega arith in f)
 run-at P i (suc c) zero h = ap (at P) (sym (add-zero i))
 run-at P i (suc c) (suc t) h = run-at P (suc i) c t (omega arith) ∙ ap (at P) (let e : suc i + t ≡ i + suc t = omega arith in e)
+
+run-same : (P : List Point) (i j c : ℕ) → ((t : ℕ) → at P (i + t) ≡ at P (j + t)) → run P i c ≡ run P j c
+unfolding run
+run-same P i j zero e = refl
+run-same P i j (suc c) e = λ t. (ap (at P) (sym (add-zero i)) ∙ e 0 ∙ ap (at P) (add-zero j)) t ∷ run-same P (suc i) (suc j) c shifted t
+  where
+    shifted : (t : ℕ) → at P (suc i + t) ≡ at P (suc j + t)
+    shifted t =
+        let here : suc i + t ≡ i + suc t = omega arith in
+        let there : j + suc t ≡ suc j + t = omega arith in
+        ap (at P) here ∙ e (suc t) ∙ ap (at P) there
+
+-- a run starts at an index or at its rest round the ring
+pub run-rest : (P : List Point) (n i c : ℕ) → length P ≡ n → run P (i % n) c ≡ run P i c
+unfolding at
+run-rest P n i c e = run-same P (i % n) i c (λ t. ap (λ k. getD P k origin) (ap (λ m. (i % n + t) % m) e ∙ mod-add-mod i n t ∙ ap (λ m. (i + t) % m) (sym e)))
 
 -- a run up to the last vertex
 run-last : (P : List Point) (i c : ℕ) → i + c ≡ length P → run P i c ≡ drop i P

@@ -13,7 +13,7 @@ use Rattle.changes.specs.Performing.{Divided}
 use Rattle.changes.specs.Calls.{answerOf}
 use Rattle.changes.proofs.Judged.{free-is}
 use Rattle.changes.proofs.Accepted.{right, facts, free, fits, split-below, split-well-formed, split-meaning}
-use Rattle.changes.proofs.Outcomes.{accepting, split-done, split-refused}
+use Rattle.changes.proofs.Outcomes.{accepting, change-done, change-refused}
 use Rattle.changes.proofs.splitting.split.Statement.{statement}
 use Rattle.changes.proofs.splitting.split.Tie as tie
 
@@ -82,7 +82,7 @@ returns c =
     let W = vertices (a .path .now) in
     let after : Lists = record { outline = l .outline; store = last .perform .last .0; runs = last .perform .last .1 .0 } in
     let divided = subst (λ k. Divided (l .store) (l .runs) (a .d) k (pieceOne P (a .i) (a .j) W) (pieceTwo P (a .i) (a .j) W) (last .perform .last .0) (last .perform .last .1 .0)) (number-is s e g) (last .perform .ensures .1) in
-    split-done (last .perform .result) (a .d) (a .i) (a .j) (a .path .now) l after e (last .perform .ensures .0) (g .accepted) (g .number)
+    change-done _ _ _ (last .perform .result) l after e (last .perform .ensures .0) (g .accepted) (g .number)
     (split-well-formed (l .outline) (l .store) (l .runs) (a .d) (a .i) (a .j) (a .path .now) (g .accepted) (last .perform .last .0) (last .perform .last .1 .0) divided)
     (split-meaning (l .outline) (l .store) (l .runs) (a .d) (a .i) (a .j) (a .path .now) (g .accepted) (last .perform .last .0) (last .perform .last .1 .0) divided)
 
@@ -96,7 +96,7 @@ returns-2 : tie.Need-returns-2
 returns-2 c =
     let judged = c .before .before in
     let s = judged .before .before .before .before in
-    split-refused (judged .split .result) (s .args .d) (s .args .i) (s .args .j) (s .args .path .now) (lent s) _ (c .enum-told .given .1) (judged .split .ensures)
+    change-refused _ _ _ (judged .split .result) (lent s) _ (c .enum-told .given .1) (judged .split .ensures)
 
 pub split-spec : {M : Type 1} → statement M
 split-spec =

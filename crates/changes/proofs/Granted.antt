@@ -1,0 +1,161 @@
+-- What the acceptance of a merge tells, and that what was performed is document 01's merge. Assumes nothing.
+use Prim.Native.Nat.{ℕ, _+_, _-_, _≤_, _<_}
+use native.Mathlib.Omega.{arith}
+use mathlib.Core.Path.{_≡_, sym, ap, _∙_}
+use mathlib.Core.Bool.{true, false, not, _||_}
+use mathlib.Core.List.{List}
+use lib.Dec.{eqb, leb}
+use lib.IntN.{ℤ}
+use lib.ListN.{length, set}
+use borrow.Author.Tests.{eqb-false, leb-false, ltb-false, not-true, not-false}
+use Rattle.ring.specs.declared.Point.{Point}
+use Rattle.ring.specs.Grid.{vertices, someBeyond}
+use Rattle.ring.proofs.Pick.{neither-left, neither-right}
+use Rattle.districts.specs.Register.{unused, ring, slot}
+use Rattle.districts.specs.Lists.{outlineSize, firstPlace, size, part, meaning}
+use Rattle.districts.specs.WellFormed.{wellFormed}
+use Rattle.register.specs.Verdict.{accept, verdict}
+use Rattle.register.specs.Sorting.{inUse}
+use Rattle.register.proofs.Rooms.{outline-in-use}
+use Rattle.register.proofs.Verdicts.{accepted}
+use Rattle.room.specs.Runs.{verticesOf}
+use Rattle.room.specs.Writing.{numbersOf}
+use Rattle.room.proofs.Forms.{Sound, sound}
+use Rattle.changes.specs.Merging.{merged, mergeTests, merge}
+use Rattle.changes.specs.Performing.{Pair, Joined}
+use Rattle.changes.proofs.Grids.{run-on-grid, both-on-grid}
+use Rattle.changes.proofs.Judged.{used-is, used-below, ring-of, ring-on-grid, length-of}
+use Rattle.changes.proofs.Matched.{merged-length}
+use Rattle.changes.proofs.Merges.{joined-well-formed, joined-meaning}
+
+-- what an acceptance tells of the lists' numbers
+pub record Joint (runs : List ℕ) (A a B b k : ℕ) : Type 0 where
+  pub some : 0 < outlineSize runs
+  pub kept : size runs A ≡ 0 → ⊥
+  pub gone : size runs B ≡ 0 → ⊥
+  pub differ : A ≡ B → ⊥
+  pub first : a < size runs A
+  pub second : b < size runs B
+  pub least : 1 ≤ k
+  pub fewer : k < size runs A
+  pub also : k < size runs B
+
+module _ (outline store : List ℤ) (runs : List ℕ) (A a B b k : ℕ)
+    (yes : verdict (mergeTests (wellFormed outline store runs) (meaning outline store runs) A a B b k) ≡ accept) where
+  right : wellFormed outline store runs ≡ true
+  right = not-false _ (accepted 1 _ _ yes .0)
+
+  facts : Sound outline store runs
+  facts = sound outline store runs right
+
+  -- the rings as the meaning has them
+  abbrev ringOf : ℕ → List Point
+  ringOf d = verticesOf (slot (meaning outline store runs) d)
+
+  long : (d : ℕ) → length (ringOf d) ≡ size runs d
+  long d = length-of outline store runs right d
+
+  used : (d : ℕ) → not (inUse (slot (meaning outline store runs) d)) ≡ false → size runs d ≡ 0 → ⊥
+  used d e = eqb-false (size runs d) 0 (not-true (eqb (size runs d) 0) (sym (used-is outline store runs right d) ∙ not-false _ e))
+
+  pub joint : Joint runs A a B b k
+  joint =
+      let t2 = accepted 2 _ _ (accepted 1 _ _ yes .1) in
+      let t6 = accepted 6 _ _ (t2 .1) in
+      let t7 = accepted 7 _ _ (t6 .1) in
+      let t8 = accepted 8 _ _ (t7 .1) in
+      let t10 = accepted 10 _ _ (t8 .1) in
+      let outlined = not-true (eqb (outlineSize runs) 0) (sym (outline-in-use outline store runs) ∙ not-false _ (t2 .0)) in
+      let edges = neither-left (eqb k 0 || (leb (length (ringOf A)) k || leb (length (ringOf B)) k)) _ (t10 .0) in
+      let most = neither-right (eqb k 0) (leb (length (ringOf A)) k || leb (length (ringOf B)) k) edges in
+      let none = eqb-false (outlineSize runs) 0 outlined in
+      let nought = eqb-false k 0 (neither-left (eqb k 0) _ edges) in
+      let lower = leb-false (length (ringOf A)) a (neither-left (leb (length (ringOf A)) a) (leb (length (ringOf B)) b) (t8 .0)) in
+      let other = leb-false (length (ringOf B)) b (neither-right (leb (length (ringOf A)) a) (leb (length (ringOf B)) b) (t8 .0)) in
+      let fewer = leb-false (length (ringOf A)) k (neither-left (leb (length (ringOf A)) k) (leb (length (ringOf B)) k) most) in
+      let also = leb-false (length (ringOf B)) k (neither-right (leb (length (ringOf A)) k) (leb (length (ringOf B)) k) most) in
+      record {
+        some = omega (arith, none);
+        kept = used A (neither-left (not (inUse (slot (meaning outline store runs) A))) (not (inUse (slot (meaning outline store runs) B))) (t6 .0));
+        gone = used B (neither-right (not (inUse (slot (meaning outline store runs) A))) (not (inUse (slot (meaning outline store runs) B))) (t6 .0));
+        differ = eqb-false A B (t7 .0);
+        first = omega (arith, lower, long A);
+        second = omega (arith, other, long B);
+        least = omega (arith, nought);
+        fewer = omega (arith, fewer, long A);
+        also = omega (arith, also, long B);
+      }
+
+  pub pair : Pair store runs A B
+  pair =
+      let kept = joint .kept in
+      let gone = joint .gone in
+      let first = used-below outline store runs right A kept in
+      let second = used-below outline store runs right B gone in
+      let some : 0 < size runs A = omega (arith, kept) in
+      let more : 0 < size runs B = omega (arith, gone) in
+      record {
+        store-length = facts .store-length;
+        runs-length = facts .runs-length;
+        most = facts .most;
+        first = first;
+        second = second;
+        differ = joint .differ;
+        some = some;
+        more = more;
+        first-inside = facts .inside A first some;
+        second-inside = facts .inside B second more;
+        apart = facts .apart A B first second (joint .differ) some more;
+      }
+
+  -- ---- the result
+
+  P : List Point
+  P = vertices (part store (firstPlace runs A) (size runs A))
+
+  Q : List Point
+  Q = vertices (part store (firstPlace runs B) (size runs B))
+
+  rings-are : merged (ringOf A) a (ringOf B) b k ≡ merged P a Q b k
+  unfolding P Q
+  rings-are = λ t. merged (ring-of outline store runs right A (joint .kept) t) a (ring-of outline store runs right B (joint .gone) t) b k
+
+  result-long : length (merged P a Q b k) ≡ size runs A - k + (size runs B - k)
+  result-long = ap length (sym rings-are) ∙ merged-length (ringOf A) (ringOf B) a b (size runs A) (size runs B) k (long A) (long B) (joint .fewer) (joint .also)
+
+  enough : 3 ≤ length (merged P a Q b k)
+  enough =
+      let t9 = accepted 9 _ _ (accepted 10 _ _ (accepted 8 _ _ (accepted 7 _ _ (accepted 6 _ _ (accepted 2 _ _ (accepted 1 _ _ yes .1) .1) .1) .1) .1) .1) in
+      let least = ltb-false (length (merged (ringOf A) a (ringOf B) b k)) 3 (t9 .0) in
+      omega (arith, least, ap length rings-are)
+
+  grid : someBeyond (numbersOf (merged P a Q b k)) ≡ false
+  unfolding P Q
+  grid = both-on-grid _ _
+      (run-on-grid (part store (firstPlace runs A) (size runs A)) (ring-on-grid outline store runs right A (joint .kept)) _ _)
+      (run-on-grid (part store (firstPlace runs B) (size runs B)) (ring-on-grid outline store runs right B (joint .gone)) _ _)
+
+  module _ (store′ : List ℤ) (runs′ : List ℕ) (v : Joined store runs A B (merged P a Q b k) store′ runs′) where
+    fits : length (merged P a Q b k) ≤ size runs A + size runs B
+    fits = omega (arith, result-long)
+
+    well : wellFormed outline store′ runs′ ≡ true
+    well = joined-well-formed outline store runs A B (merged P a Q b k) store′ runs′ right (joint .some) pair enough fits grid v
+
+    sense : meaning outline store′ runs′ ≡ merge (meaning outline store runs) A a B b k
+    unfolding merge
+    sense =
+        joined-meaning outline store runs A B (merged P a Q b k) store′ runs′ right (joint .some) pair enough fits grid v
+        ∙ (λ t. record { outline = meaning outline store runs .outline; districts = set (set (meaning outline store runs .districts) A (ring (sym rings-are t))) B unused })
+
+  pub merge-well-formed : (store′ : List ℤ) (runs′ : List ℕ)
+      → Joined store runs A B (merged (vertices (part store (firstPlace runs A) (size runs A))) a (vertices (part store (firstPlace runs B) (size runs B))) b k) store′ runs′
+      → wellFormed outline store′ runs′ ≡ true
+  unfolding P Q
+  merge-well-formed = well
+
+  pub merge-meaning : (store′ : List ℤ) (runs′ : List ℕ)
+      → Joined store runs A B (merged (vertices (part store (firstPlace runs A) (size runs A))) a (vertices (part store (firstPlace runs B) (size runs B))) b k) store′ runs′
+      → meaning outline store′ runs′ ≡ merge (meaning outline store runs) A a B b k
+  unfolding P Q
+  merge-meaning = sense

@@ -1,0 +1,116 @@
+-- `changes::merging::join` has both districts leave before the result is written. Assumes nothing.
+use native.Mathlib.Omega.{arith}
+use mathlib.Core.Path.{subst}
+use Rattle.ring.specs.Grid.{vertices}
+use Rattle.ring.proofs.Vertices.{length-vertices}
+use Rattle.room.specs.Writing.{Added}
+use Rattle.room.proofs.Leaving.{left-total}
+use Rattle.changes.proofs.Merges.{merged-is, second-size, first-total, still-inside}
+use borrow.Author.Needs.{needs}
+use Rattle.changes.proofs.merging.join.Statement.{statement}
+use Rattle.changes.proofs.merging.join.Tie as tie
+
+add-around : tie.Need-add-around
+add-around c = search needs
+
+around-requires : tie.Need-around-requires
+around-requires c κs = search needs
+
+remove-requires : tie.Need-remove-requires
+remove-requires c κs = search needs
+
+remove-requires-2 : tie.Need-remove-requires-2
+remove-requires-2 c κs =
+    let out = c .before .before .before .before .before in
+    let s = out .before .before .before .before .before in
+    let a = s .args in
+    let p = s .pre .0 in
+    let l = out .remove .ensures in
+    let inside = still-inside (a .store .now) (a .runs .now) (a .kept) (a .gone) p _ _ l in
+    let all = first-total (a .store .now) (a .runs .now) (a .kept) (a .gone) p _ _ l in
+    (l .long-store, (l .long-runs, (p .second, (inside, omega (arith, all, p .most)))))
+
+sub-add-two : tie.Need-sub-add-two
+sub-add-two c = search needs
+
+add-add-two : tie.Need-add-add-two
+add-add-two c = search needs
+
+add-add-two-2 : tie.Need-add-add-two-2
+add-add-two-2 c = search needs
+
+sub-add-two-2 : tie.Need-sub-add-two-2
+sub-add-two-2 c = search needs
+
+sub-add-two-3 : tie.Need-sub-add-two-3
+sub-add-two-3 c = search needs
+
+add-two-requires : tie.Need-add-two-requires
+add-two-requires c κs =
+    let out₂ = c .before .before .before .before .before in
+    let out = out₂ .before .before .before .before .before .before in
+    let s = out .before .before .before .before .before in
+    let a = s .args in
+    let p = s .pre .0 in
+    let first = s .pre .1 .0 in
+    let second = s .pre .1 .1 .0 in
+    let edges = s .pre .1 .1 .1 in
+    let l₂ = out₂ .remove2 .ensures in
+    let many = second-size (a .store .now) (a .runs .now) (a .kept) (a .gone) p _ _ (out .remove .ensures) in
+    let all = first-total (a .store .now) (a .runs .now) (a .kept) (a .gone) p _ _ (out .remove .ensures) in
+    let rest = left-total (out .remove .last .0) (out .remove .last .1 .0) (a .gone) _ _ (p .second) l₂ in (
+      (l₂ .long-store, l₂ .long-runs, p .first),
+      (
+        first .0,
+        (
+          (omega (arith, out .before .before .before .around .ensures .1), omega (arith, edges)),
+          (second .0, ((omega (arith, second), omega arith), omega (arith, many, all, rest, p .most, first, second, edges))),
+        ),
+      ),
+    )
+
+same-length : tie.Need-same-length
+same-length c = search needs
+
+same-length-2 : tie.Need-same-length-2
+same-length-2 c = search needs
+
+returns : tie.Need-returns
+returns c =
+    let last = c .before .before .before in
+    let out₂ = last .before .before .before .before .before .before in
+    let out = out₂ .before .before .before .before .before .before in
+    let around = out .before .before .before in
+    let s = around .before .before in
+    let a = s .args in
+    let P = vertices (a .ring .now) in
+    let Q = vertices (a .other .now) in
+    record {
+      store₁ = out .remove .last .0;
+      runs₁ = out .remove .last .1 .0;
+      store₂ = out₂ .remove2 .last .0;
+      runs₂ = out₂ .remove2 .last .1 .0;
+      first = out .remove .ensures;
+      second = out₂ .remove2 .ensures;
+      taken = subst (λ R. Added (out₂ .remove2 .last .0) (out₂ .remove2 .last .1 .0) (a .kept) R (last .add-two .last .0) (last .add-two .last .1 .0))
+          (merged-is P Q (a .a) (a .b) (a .n) (a .m) (a .k) (around .around .result) (length-vertices (a .ring .now) (a .n) (s .pre .1 .0 .0)) (length-vertices (a .other .now) (a .m) (s .pre .1 .1 .0 .0)) (around .around .ensures .0))
+          (last .add-two .ensures);
+    }
+
+pub join-spec : {M : Type 1} → statement M
+join-spec =
+    tie.close
+    (tie.spec
+    add-around
+    around-requires
+    remove-requires
+    remove-requires-2
+    sub-add-two
+    add-add-two
+    add-add-two-2
+    sub-add-two-2
+    sub-add-two-3
+    add-two-requires
+    same-length
+    same-length-2
+    returns)

@@ -1,0 +1,90 @@
+-- `changes::merging::perform` reads both rings before their room is closed. Assumes nothing.
+use native.Mathlib.Omega.{arith}
+use mathlib.Core.Path.{refl, subst₂}
+use Rattle.ring.specs.Grid.{vertices}
+use Rattle.districts.specs.Lists.{firstPlace, size}
+use Rattle.room.proofs.Written.{read-back}
+use Rattle.changes.specs.Merging.{merged}
+use Rattle.changes.specs.Performing.{Joined}
+use borrow.Author.Needs.{needs}
+use Rattle.changes.proofs.merging.perform.Statement.{statement}
+use Rattle.changes.proofs.merging.perform.Tie as tie
+
+slice-aggregate-read : tie.Need-slice-aggregate-read
+slice-aggregate-read c = search needs
+
+read-requires : tie.Need-read-requires
+read-requires c κs = search needs
+
+slice-aggregate-read-2 : tie.Need-slice-aggregate-read-2
+slice-aggregate-read-2 c = search needs
+
+read-requires-2 : tie.Need-read-requires-2
+read-requires-2 c κs = search needs
+
+sub-join : tie.Need-sub-join
+sub-join c = search needs
+
+part-join-start : tie.Need-part-join-start
+part-join-start c = search needs
+
+part-join-end : tie.Need-part-join-end
+part-join-end c = search needs
+
+sub-join-2 : tie.Need-sub-join-2
+sub-join-2 c = search needs
+
+part-join-start-2 : tie.Need-part-join-start-2
+part-join-start-2 c = search needs
+
+part-join-end-2 : tie.Need-part-join-end-2
+part-join-end-2 c = search needs
+
+join-requires : tie.Need-join-requires
+join-requires c κs =
+    let got₂ = c .before .before .before .before .before .before .before in
+    let got = got₂ .before .before .before .before .before in
+    let s = got .before .before .before .before .before in
+    let p = s .pre .0 in
+    let many = got .read .ensures .0 in
+    let more = got₂ .read2 .ensures .0 in
+    (p, ((search needs, omega (arith, many), omega (arith, many, s .pre .1 .0)), ((search needs, omega (arith, more), omega (arith, more, s .pre .1 .0)), (omega (arith, s .pre .1 .1), omega (arith, many, s .pre .1 .1), omega (arith, more, s .pre .1 .1)))))
+
+same-length : tie.Need-same-length
+same-length c = search needs
+
+same-length-2 : tie.Need-same-length-2
+same-length-2 c = search needs
+
+returns : tie.Need-returns
+returns c =
+    let done = c .before .before .before in
+    let got₂ = done .before .before .before .before .before .before .before .before in
+    let got = got₂ .before .before .before .before .before in
+    let s = got .before .before .before .before .before in
+    let a = s .args in
+    let store = a .store .now in
+    let runs = a .runs .now in
+    let p = s .pre .0 in
+    let ring = read-back store (firstPlace runs (a .kept)) (size runs (a .kept)) (omega (arith, p .first-inside, p .most, p .store-length)) _ _ (got .read .ensures .1) _ (got .read .ensures .0) in
+    let other = read-back store (firstPlace runs (a .gone)) (size runs (a .gone)) (omega (arith, p .second-inside, p .most, p .store-length)) _ _ (got₂ .read2 .ensures .1) _ (got₂ .read2 .ensures .0) in
+    (refl, subst₂ (λ xs ys. Joined store runs (a .kept) (a .gone) (merged (vertices xs) (a .a) (vertices ys) (a .b) (a .k)) (done .join .last .0) (done .join .last .1 .0)) ring other (done .join .ensures))
+
+pub perform-spec : {M : Type 1} → statement M
+perform-spec =
+    tie.close
+    (tie.spec
+    slice-aggregate-read
+    read-requires
+    slice-aggregate-read-2
+    read-requires-2
+    sub-join
+    part-join-start
+    part-join-end
+    sub-join-2
+    part-join-start-2
+    part-join-end-2
+    join-requires
+    same-length
+    same-length-2
+    returns)
