@@ -9,3 +9,4 @@ pub mod Accepted
 pub mod Granted
 pub mod Outcomes
 pub mod Unique
+pub mod Changing

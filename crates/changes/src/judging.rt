@@ -19,6 +19,9 @@ ghost use Rattle.changes.specs.Calls.{answerOf, answers};
 // The fewest vertices of a ring.
 pub const LEAST_VERTICES: usize = 3;
 
+// The two vertices at which a split begins and ends: both pieces have them.
+const ENDS: usize = 2;
+
 pub fn in_use(runs: &[u32], d: usize) -> bool
     requires { ⌜ length (now runs) ≡ 129 ⌝ }
     ensures { λ r. ⌜ (r ≡ not (eqb (sizeOf (now (runs .entry)) d) 0)) × (r ≡ true → d < 64) ⌝ }
@@ -59,7 +62,8 @@ fn room(runs: &[u32], n: usize, i: usize, j: usize, path: &[i32]) -> Changed
     if NUMBERS <= free {
         return Changed::Refused(Refusal::NumbersInUse);
     }
-    if MOST_VERTICES < districts::total(runs) + 2 + path.len() {
+    let all = districts::total(runs);
+    if MOST_VERTICES < all + ENDS + path.len() {
         return Changed::Refused(Refusal::NoRoom);
     }
     Changed::Done(free)

@@ -32,6 +32,11 @@ list-past zero f a i h = refl
 list-past (suc n) f a zero h = absurd (let g : ⊥ = omega arith in g)
 list-past (suc n) f a (suc i) h = list-past n (λ k. f (suc k)) a i (omega arith)
 
+pub list-long : {A : Type 0} (n : ℕ) (f : ℕ → A) → length (listTo n f) ≡ n
+unfolding listTo
+list-long zero f = refl
+list-long (suc n) f = ap suc (list-long n (λ k. f (suc k)))
+
 pub list-same : {A : Type 0} (n : ℕ) (f g : ℕ → A) → ((i : ℕ) → i < n → f i ≡ g i) → listTo n f ≡ listTo n g
 unfolding listTo
 list-same zero f g e = refl
@@ -53,6 +58,10 @@ slot-is outline store runs e d = elim (decLt d 64) [
   | no h ↦ list-past 64 (district store runs) unused d (omega arith)
       ∙ sym (unused-when store (firstPlace runs d) (size runs d) (List·getD-eq-default runs 0 (omega (arith, e))))
 ]
+
+pub all-numbers : (outline store : List ℤ) (runs : List ℕ) → length (meaning outline store runs .districts) ≡ 64
+unfolding meaning
+all-numbers outline store runs = list-long 64 (district store runs)
 
 -- ---- parts of parts
 
