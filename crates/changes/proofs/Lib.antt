@@ -10,3 +10,4 @@ pub mod Granted
 pub mod Outcomes
 pub mod Unique
 pub mod Changing
+pub mod Vectors
