@@ -77,7 +77,7 @@ level-is (pos b) (negsuc d) e = cc
 level-is (negsuc b) (pos d) e = cc
 level-is (negsuc b) (negsuc d) e = ap negsuc (eqb-true b d e)
 
-same-is : (P Q : Point) → same P Q ≡ true → P ≡ Q
+pub same-is : (P Q : Point) → same P Q ≡ true → P ≡ Q
 unfolding level same
 same-is P Q e =
     let across = level-is (P .x) (Q .x) (both-left (level (P .x) (Q .x)) (level (P .y) (Q .y)) e) in

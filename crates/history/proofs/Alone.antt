@@ -1,0 +1,242 @@
+-- Where the outline's winding number is 1 and each district's 0 or 1, or -1 and each 0 or -1, a report on no edge is answered One of
+-- exactly one district. Assumes nothing.
+use Prim.Native.Nat.{ℕ, zero, suc, _+_, _≤_, _<_}
+use native.Mathlib.Decide.{decLt, ℕ-discrete}
+use native.Mathlib.Nat.{zero-add}
+use native.Mathlib.Omega.{arith}
+use mathlib.Core.Path.{_≡_, refl, sym, ap, subst, _∙_}
+use mathlib.Core.Bool.{Bool, true, false, not, _||_}
+use mathlib.Core.List.{List, [], _∷_}
+use mathlib.Core.Logic.{_⊎_, inl, inr}
+use lib.IntN.{ℤ, pos, negsuc, _+ℤ_, +ℤ-idl}
+use lib.ListN.{length, getD}
+use borrow.Author.Tests.{le-ltb}
+use Rattle.exact.specs.Sign.{eqZ}
+use Rattle.exact.proofs.Parts.{up, down}
+use Rattle.ring.specs.declared.Point.{Point}
+use Rattle.ring.specs.Grid.{pick, point, beyond}
+use Rattle.ring.specs.Table.{count}
+use Rattle.ring.specs.Turns.{quarterTurns, winding, oddly}
+use Rattle.ring.specs.Locate.{off, lowest, atVertex, onEdge, choose, locatedOn}
+use Rattle.ring.proofs.Pick.{pick-false}
+use Rattle.ring.proofs.Quadrants.{turns-reverse}
+use Rattle.ring.proofs.Search.{lowest-none, lowest-is, lowest-over}
+use Rattle.districts.specs.Counts.{sumTo}
+use Rattle.districts.specs.Register.{Slot, unused, ring, Register, slot}
+use Rattle.districts.specs.Answers.{report, one}
+use Rattle.districts.proofs.Counting.{term-most}
+use Rattle.register.specs.Verdict.{accept, verdict}
+use Rattle.register.specs.Sorting.{rests, winds, ofSlot, onBorder, windsAbout, sorted, belongsTo, inUse, assignTests, assigned}
+use Rattle.register.proofs.Verdicts.{passes, passed-all, answer-given}
+use Rattle.history.specs.Histories.{Call, empty, after}
+use Rattle.history.specs.Adding.{sumOver, slotWinding, Clear, ClearOf, OnlyOne}
+use Rattle.history.proofs.Told.{used-below}
+use Rattle.history.proofs.Balanced.{balanced}
+use Rattle.history.proofs.Windings.{no-vertex, windings-add-up}
+
+-- ---- off a ring
+
+off-ring : (P : List Point) (R : Point) → ((i : ℕ) → i < length P → onEdge P R i ≡ false) → locatedOn P R ≡ off (winding P R) (oddly (winding P R))
+unfolding locatedOn
+off-ring P R free =
+    let n = length P in
+    let vertex = lowest-none (atVertex P R) n 0 (λ j least most. no-vertex P R j (free j (omega arith))) ∙ zero-add n in
+    let edge = lowest-none (onEdge P R) n 0 (λ j least most. free j (omega arith)) ∙ zero-add n in
+    let past = le-ltb n n (omega arith) in
+    (λ t. choose n (vertex t) (edge t) (winding P R)) ∙ pick-false past _ _ ∙ pick-false past _ _
+
+-- on no edge of a slot, R is not on its border, and winds about it where its winding number is not 0
+no-border : (R : Point) (s : Slot) → Clear R s → ofSlot rests R s ≡ false
+no-border R unused free = refl
+no-border R (ring P) free = ap rests (off-ring P R free)
+
+winds-by : (R : Point) (s : Slot) → Clear R s → ofSlot winds R s ≡ not (eqZ (slotWinding R s) (pos 0))
+winds-by R unused free = refl
+winds-by R (ring P) free = ap winds (off-ring P R free)
+
+-- ---- counting
+
+pub sum-front : (n : ℕ) (f : ℕ → ℕ) → sumTo (suc n) f ≡ f 0 + sumTo n (λ d. f (suc d))
+unfolding sumTo
+sum-front zero f = omega arith
+sum-front (suc n) f = let front = sum-front n f in omega (arith, front)
+
+pub no-terms : (n : ℕ) (f : ℕ → ℕ) → ((k : ℕ) → k < n → f k ≡ 0) → sumTo n f ≡ 0
+unfolding sumTo
+no-terms zero f none = refl
+no-terms (suc n) f none = let before = no-terms n f (λ k h. none k (omega arith)) in let last = none n (omega arith) in omega (arith, before, last)
+
+-- two different terms of 1 make a sum of 2 or more
+two-terms : (n : ℕ) (f : ℕ → ℕ) (i j : ℕ) → i < j → j < n → f i ≡ 1 → f j ≡ 1 → 2 ≤ sumTo n f
+unfolding sumTo
+two-terms zero f i j h k e g = absurd (let none : ⊥ = omega arith in none)
+two-terms (suc n) f i j h k e g = elim (ℕ-discrete j n) [
+  | yes last ↦
+      let first = term-most f n i (omega (arith, last)) in
+      let its : f n ≡ 1 = ap f (sym last) ∙ g in
+      omega (arith, first, its, e)
+  | no other ↦ let before = two-terms n f i j h (omega (arith, other)) e g in omega (arith, before)
+]
+
+-- u so many times over
+times : ℕ → ℤ → ℤ
+times zero u = pos 0
+times (suc n) u = u +ℤ times n u
+
+times-one : (n : ℕ) → times n (pos 1) ≡ pos n
+unfolding times
+times-one zero = refl
+times-one (suc n) = ap (λ z. pos 1 +ℤ z) (times-one n) ∙ ap pos (let e : 1 + n ≡ suc n = omega arith in e)
+
+times-minus : (n : ℕ) → times (suc n) (negsuc 0) ≡ negsuc n
+unfolding times
+times-minus zero = refl
+times-minus (suc n) = ap (λ z. negsuc 0 +ℤ z) (times-minus n) ∙ ap (λ k. negsuc (suc k)) (zero-add n)
+
+-- 1 or -1
+abbrev Once : ℤ → Type 0
+Once u = (u ≡ pos 1) ⊎ (u ≡ negsuc 0)
+
+-- one is once
+once : (u : ℤ) → Once u → (n : ℕ) → times n u ≡ u → n ≡ 1
+unfolding times
+once u (inl e) n f = ap up (sym (times-one n) ∙ ap (times n) (sym e) ∙ f ∙ e)
+once u (inr e) zero f = let clash : _≡_ {A = ℕ} 0 1 = ap down (f ∙ e) in absurd (let none : ⊥ = omega arith in none)
+once u (inr e) (suc n) f = ap down (sym (times-minus n) ∙ ap (times (suc n)) (sym e) ∙ f ∙ e)
+
+module _ (w : Slot → ℤ) (u : ℤ) (other : eqZ u (pos 0) ≡ false) where
+  abbrev hit : Slot → Bool
+  hit s = not (eqZ (w s) (pos 0))
+
+  -- numbers that are 0 or u add up to u for each that is not 0
+  sum-times : (l : List Slot) → ((d : ℕ) → (w (getD l d unused) ≡ pos 0) ⊎ (w (getD l d unused) ≡ u)) → sumOver w l ≡ times (sumTo (length l) (λ d. count (hit (getD l d unused)))) u
+  unfolding sumOver sumTo times
+  sum-times [] each = refl
+  sum-times (s ∷ l) each =
+      say (sum-times l (λ d. each (suc d))) (each 0) ∙ ap (λ n. times n u) (sym (sum-front (length l) (λ d. count (hit (getD (s ∷ l) d unused)))))
+    where
+      rest : ℕ
+      rest = sumTo (length l) (λ d. count (hit (getD l d unused)))
+
+      say : sumOver w l ≡ times rest u → (w s ≡ pos 0) ⊎ (w s ≡ u) → w s +ℤ sumOver w l ≡ times (count (hit s) + rest) u
+      say others (inl e) =
+          let none : rest ≡ count (hit s) + rest = omega (arith, ap (λ z. count (not (eqZ z (pos 0)))) e) in
+          ap (λ z. z +ℤ sumOver w l) e ∙ +ℤ-idl (sumOver w l) ∙ others ∙ ap (λ n. times n u) none
+      say others (inr e) =
+          let more : suc rest ≡ count (hit s) + rest = omega (arith, ap (λ z. count (not (eqZ z (pos 0)))) e ∙ ap (λ b. count (not b)) other) in
+          (λ t. e t +ℤ others t) ∙ ap (λ n. times n u) more
+
+-- ---- the report
+
+unit-other : (u : ℤ) → Once u → eqZ u (pos 0) ≡ false
+unit-other u (inl e) = ap (λ z. eqZ z (pos 0)) e
+unit-other u (inr e) = ap (λ z. eqZ z (pos 0)) e
+
+-- a winding number that is not 0 needs a ring
+winds-in-use : (R : Point) (s : Slot) (u : ℤ) → eqZ u (pos 0) ≡ false → slotWinding R s ≡ u → inUse s ≡ true
+winds-in-use R unused u other e = let clash : _≡_ {A = ℕ} 1 0 = ap (λ z. pick (eqZ z (pos 0)) 1 0) e ∙ ap (λ b. pick b 1 0) other in absurd (let none : ⊥ = omega arith in none)
+winds-in-use R (ring P) u other e = refl
+
+-- a report's answer, and the district it names
+pub record Answered (g : Register) (r : ℕ) (x y u : ℤ) : Type 0 where
+  pub district : ℕ
+  pub answer : assigned true g r x y ≡ report r (one district)
+  pub only : OnlyOne g (point x y) u district
+
+module _ (g : Register) (r : ℕ) (x y u : ℤ) (full : length (g .districts) ≡ 64) (sums : sumOver (slotWinding (point x y)) (g .districts) ≡ slotWinding (point x y) (g .outline))
+    (unit : Once u) (across : beyond x ≡ false) (up-too : beyond y ≡ false) (free : ClearOf g (point x y))
+    (whole : slotWinding (point x y) (g .outline) ≡ u) (each : (d : ℕ) → (slotWinding (point x y) (slot g d) ≡ pos 0) ⊎ (slotWinding (point x y) (slot g d) ≡ u)) where
+  R : Point
+  R = point x y
+
+  other : eqZ u (pos 0) ≡ false
+  other = unit-other u unit
+
+  about : ℕ → Bool
+  about d = windsAbout g (point x y) d
+
+  about-is : (d : ℕ) → about d ≡ not (eqZ (slotWinding (point x y) (slot g d)) (pos 0))
+  unfolding about windsAbout
+  about-is d = winds-by (point x y) (slot g d) (free .districts d)
+
+  -- exactly one district
+  how-many : sumTo 64 (λ d. count (about d)) ≡ 1
+  how-many = once u unit _ (
+      (λ t. times (sumTo 64 (λ d. count (about-is d t))) u)
+      ∙ ap (λ n. times (sumTo n (λ d. count (not (eqZ (slotWinding (point x y) (slot g d)) (pos 0))))) u) (sym full)
+      ∙ sym (sum-times (slotWinding (point x y)) u other (g .districts) each)
+      ∙ sums
+      ∙ whole)
+
+  which : ℕ
+  which = lowest about 64 0
+
+  below : which < 64
+  unfolding which
+  below = elim (decLt (lowest about 64 0) 64) [
+    | yes less ↦ less
+    | no more ↦
+        let none = no-terms 64 (λ d. count (about d)) (λ k h. ap count (lowest-over about 64 (omega (arith, more)) k h)) in
+        absurd (let f : ⊥ = omega (arith, none, how-many) in f)
+  ]
+
+  its : about which ≡ true
+  unfolding which
+  its = lowest-is about 64 0 (lowest about 64 0) refl below .0
+
+  -- a district that is wound about has winding number u, and one with winding number u is wound about
+  wound : (d : ℕ) → about d ≡ true → slotWinding (point x y) (slot g d) ≡ u
+  wound d e = say (each d)
+    where
+      say : (slotWinding (point x y) (slot g d) ≡ pos 0) ⊎ (slotWinding (point x y) (slot g d) ≡ u) → slotWinding (point x y) (slot g d) ≡ u
+      say (inl none) =
+          let clash : _≡_ {A = ℕ} 0 1 = ap (λ b. pick b 1 0) (sym (about-is d ∙ ap (λ z. not (eqZ z (pos 0))) none) ∙ e) in
+          absurd (let f : ⊥ = omega arith in f)
+      say (inr some) = some
+
+  winding-about : (d : ℕ) → slotWinding (point x y) (slot g d) ≡ u → about d ≡ true
+  winding-about d e = about-is d ∙ ap (λ z. not (eqZ z (pos 0))) e ∙ ap not other
+
+  alone : (e : ℕ) → slotWinding (point x y) (slot g e) ≡ u → e ≡ which
+  alone e f = elim (ℕ-discrete e which) [
+    | yes same ↦ same
+    | no differ ↦ elim (decLt e which) [
+      | yes less ↦ absurd (twice e which less below (winding-about e f) its)
+      | no more ↦ absurd (twice which e (omega (arith, differ, more)) (subst (λ (n : ℕ). e < n) full (used-below g e (winds-in-use (point x y) (slot g e) u other f))) its (winding-about e f))
+    ]
+  ]
+    where
+      twice : (i j : ℕ) → i < j → j < 64 → about i ≡ true → about j ≡ true → ⊥
+      twice i j h k p q = let two = two-terms 64 (λ d. count (about d)) i j h k (ap count p) (ap count q) in omega (arith, two, how-many)
+
+  clear : (d : ℕ) → onBorder g (point x y) d ≡ false
+  unfolding onBorder
+  clear d = no-border (point x y) (slot g d) (free .districts d)
+
+  -- the report is answered by where its point belongs
+  belongs : belongsTo g (point x y) ≡ one which
+  unfolding belongsTo about which
+  belongs =
+      let border = lowest-none (onBorder g (point x y)) 64 0 (λ d least most. clear d) in
+      (λ t. sorted (border t) (how-many t) (lowest (windsAbout g (point x y)) 64 0))
+
+  taken : verdict (assignTests true g x y) ≡ accept
+  taken =
+      passes 1 _ _ refl
+      ∙ passes 2 _ _ (ap not (winds-in-use (point x y) (g .outline) u other whole))
+      ∙ passes 5 _ _ (λ t. across t || up-too t)
+      ∙ passed-all
+
+  answered : Answered g r x y u
+  answered = record {
+    district = which;
+    answer = sym (answer-given true g r x y taken) ∙ ap (report r) belongs;
+    only = record { number = below; winds = wound which its; alone = alone };
+  }
+
+pub one-district : (cs : List Call) (r : ℕ) (x y u : ℤ) → Once u → beyond x ≡ false → beyond y ≡ false → ClearOf (after empty cs) (point x y)
+    → slotWinding (point x y) (after empty cs .outline) ≡ u
+    → ((d : ℕ) → (slotWinding (point x y) (slot (after empty cs) d) ≡ pos 0) ⊎ (slotWinding (point x y) (slot (after empty cs) d) ≡ u))
+    → Answered (after empty cs) r x y u
+one-district cs r x y u unit across up-too free whole each =
+    answered (after empty cs) r x y u (balanced (quarterTurns (point x y)) (turns-reverse (point x y)) cs .full) (windings-add-up cs (point x y) free) unit across up-too free whole each
