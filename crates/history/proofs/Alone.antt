@@ -29,7 +29,7 @@ use Rattle.register.specs.Verdict.{accept, verdict}
 use Rattle.register.specs.Sorting.{rests, winds, ofSlot, onBorder, windsAbout, sorted, belongsTo, inUse, assignTests, assigned}
 use Rattle.register.proofs.Verdicts.{passes, passed-all, answer-given}
 use Rattle.history.specs.Histories.{Call, empty, after}
-use Rattle.history.specs.Adding.{sumOver, slotWinding, Clear, ClearOf, OnlyOne}
+use Rattle.history.specs.Adding.{sumOver, slotWinding, Clear, ClearOf, SaidOne}
 use Rattle.history.proofs.Told.{used-below}
 use Rattle.history.proofs.Balanced.{balanced}
 use Rattle.history.proofs.Windings.{no-vertex, windings-add-up}
@@ -137,12 +137,6 @@ winds-in-use : (R : Point) (s : Slot) (u : ℤ) → eqZ u (pos 0) ≡ false → 
 winds-in-use R unused u other e = let clash : _≡_ {A = ℕ} 1 0 = ap (λ z. pick (eqZ z (pos 0)) 1 0) e ∙ ap (λ b. pick b 1 0) other in absurd (let none : ⊥ = omega arith in none)
 winds-in-use R (ring P) u other e = refl
 
--- a report's answer, and the district it names
-pub record Answered (g : Register) (r : ℕ) (x y u : ℤ) : Type 0 where
-  pub district : ℕ
-  pub answer : assigned true g r x y ≡ report r (one district)
-  pub only : OnlyOne g (point x y) u district
-
 module _ (g : Register) (r : ℕ) (x y u : ℤ) (full : length (g .districts) ≡ 64) (sums : sumOver (slotWinding (point x y)) (g .districts) ≡ slotWinding (point x y) (g .outline))
     (unit : Once u) (across : beyond x ≡ false) (up-too : beyond y ≡ false) (free : ClearOf g (point x y))
     (whole : slotWinding (point x y) (g .outline) ≡ u) (each : (d : ℕ) → (slotWinding (point x y) (slot g d) ≡ pos 0) ⊎ (slotWinding (point x y) (slot g d) ≡ u)) where
@@ -227,16 +221,16 @@ module _ (g : Register) (r : ℕ) (x y u : ℤ) (full : length (g .districts) �
       ∙ passes 5 _ _ (λ t. across t || up-too t)
       ∙ passed-all
 
-  answered : Answered g r x y u
+  answered : SaidOne (assigned true g r x y) g r (point x y) u
   answered = record {
     district = which;
-    answer = sym (answer-given true g r x y taken) ∙ ap (report r) belongs;
+    is = sym (answer-given true g r x y taken) ∙ ap (report r) belongs;
     only = record { number = below; winds = wound which its; alone = alone };
   }
 
 pub one-district : (cs : List Call) (r : ℕ) (x y u : ℤ) → Once u → beyond x ≡ false → beyond y ≡ false → ClearOf (after empty cs) (point x y)
     → slotWinding (point x y) (after empty cs .outline) ≡ u
     → ((d : ℕ) → (slotWinding (point x y) (slot (after empty cs) d) ≡ pos 0) ⊎ (slotWinding (point x y) (slot (after empty cs) d) ≡ u))
-    → Answered (after empty cs) r x y u
+    → SaidOne (assigned true (after empty cs) r x y) (after empty cs) r (point x y) u
 one-district cs r x y u unit across up-too free whole each =
     answered (after empty cs) r x y u (balanced (quarterTurns (point x y)) (turns-reverse (point x y)) cs .full) (windings-add-up cs (point x y) free) unit across up-too free whole each

@@ -5,3 +5,5 @@ pub mod Balanced
 pub mod Windings
 pub mod Alone
 pub mod Limits
+pub mod Held
+pub mod Fresh

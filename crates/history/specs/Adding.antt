@@ -9,6 +9,7 @@ use Rattle.ring.specs.declared.Point.{Point}
 use Rattle.ring.specs.Rings.{Weight, ringSum}
 use Rattle.ring.specs.Turns.{winding}
 use Rattle.ring.specs.Locate.{onEdge}
+use Rattle.districts.specs.Answers.{Answer, report, one}
 use Rattle.districts.specs.Register.{Slot, unused, ring, Register, numbers, slot}
 
 -- a number for each slot, added up over a list of slots
@@ -41,3 +42,9 @@ pub record OnlyOne (g : Register) (R : Point) (u : ℤ) (d : ℕ) : Type 0 where
   pub number : d < numbers
   pub winds : slotWinding R (slot g d) ≡ u
   pub alone : (e : ℕ) → slotWinding R (slot g e) ≡ u → e ≡ d
+
+-- a report's answer is One of a district that alone has winding number u there
+pub record SaidOne (answer : Answer) (g : Register) (r : ℕ) (R : Point) (u : ℤ) : Type 0 where
+  pub district : ℕ
+  pub is : answer ≡ report r (one district)
+  pub only : OnlyOne g R u district

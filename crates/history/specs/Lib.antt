@@ -1,3 +1,4 @@
 pub mod Histories
 pub mod Adding
 pub mod Limits
+pub mod Turns

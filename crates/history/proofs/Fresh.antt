@@ -1,0 +1,57 @@
+-- Lists of a register's lengths whose runs are all 0 hold an empty register. Assumes nothing.
+use Prim.Native.Nat.{ℕ, _+_}
+use native.Mathlib.Decide.{decLt}
+use native.Mathlib.Omega.{arith}
+use mathlib.Core.Path.{_≡_, ap}
+use mathlib.Core.List.{List}
+use lib.IntN.{ℤ}
+use lib.ListN.{length, getD}
+use Rattle.ring.specs.Grid.{someBeyond}
+use Rattle.districts.specs.Counts.{listTo}
+use Rattle.districts.specs.Register.{unused, numbers}
+use Rattle.districts.specs.Lists.{outlineSize, firstPlace, size, part, district, meaning}
+use Rattle.districts.specs.WellFormed.{sized, total}
+use Rattle.districts.proofs.Meaning.{list-at, list-past, list-long, list-same, unused-when}
+use Rattle.register.specs.Calls.{formed}
+use Rattle.room.proofs.Forms as Forms
+use Rattle.room.proofs.Forms.{Sound}
+use Rattle.history.specs.Histories.{empty}
+use Rattle.history.specs.Turns.{Fresh}
+use Rattle.history.proofs.Alone.{no-terms}
+
+abbrev zeros : List ℕ
+zeros = listTo 129 (λ k. 0)
+
+zero-at : (k : ℕ) → getD zeros k 0 ≡ 0
+zero-at k = elim (decLt k 129) [
+  | yes less ↦ list-at 129 (λ i. 0) 0 k less
+  | no more ↦ list-past 129 (λ i. 0) 0 k (omega (arith, more))
+]
+
+none : total zeros ≡ 0
+none = no-terms 64 (size zeros) (λ d h. zero-at (65 + d))
+
+facts : (outline store : List ℤ) → length outline ≡ 4096 → length store ≡ 4096 → Sound outline store zeros
+facts outline store e f = record {
+  outline-length = e;
+  store-length = f;
+  runs-length = list-long 129 (λ k. 0);
+  outline-size = ap sized (zero-at 0);
+  sizes = λ d h. ap sized (zero-at (65 + d));
+  most = omega (arith, none);
+  beside = λ h. none;
+  inside = λ d h some. absurd (let f : ⊥ = omega (arith, some, zero-at (65 + d)) in f);
+  apart = λ d k h i other some more. absurd (let f : ⊥ = omega (arith, some, zero-at (65 + d)) in f);
+  outline-grid = ap (λ n. someBeyond (part outline 0 n)) (zero-at 0);
+  store-grid = ap (λ n. someBeyond (part store 0 n)) none;
+}
+
+pub fresh-lists : (outline store : List ℤ) → length outline ≡ 4096 → length store ≡ 4096 → Fresh (record { outline = outline; store = store; runs = listTo 129 (λ k. 0) })
+unfolding meaning empty
+fresh-lists outline store e f = (
+  Forms.formed (facts outline store e f),
+  λ t. record {
+    outline = unused-when outline 0 (outlineSize zeros) (zero-at 0) t;
+    districts = list-same numbers (district store zeros) (λ d. unused) (λ d h. unused-when store (firstPlace zeros d) (size zeros d) (zero-at (65 + d))) t;
+  },
+)
