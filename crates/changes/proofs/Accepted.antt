@@ -19,15 +19,16 @@ use Rattle.register.proofs.Rooms.{outline-in-use}
 use Rattle.register.proofs.Verdicts.{accepted}
 use Rattle.ring.proofs.Search.{lowest-is}
 use Rattle.room.specs.Runs.{steps, verticesOf}
-use Rattle.changes.specs.Splitting.{pieceOne, pieceTwo, splitTests, split}
-use Rattle.changes.specs.Judging.{lowestFree}
+use Rattle.judging.specs.Splitting.{pieceOne, pieceTwo, splitTests}
+use Rattle.changes.specs.Afterwards.{split}
+use Rattle.judging.specs.Judging.{lowestFree}
 use Rattle.room.specs.Writing.{numbersOf}
 use Rattle.changes.specs.Performing.{Divided}
 use Rattle.room.proofs.Forms.{Sound, sound}
 use Rattle.room.proofs.Written.{numbers-vertices}
 use Rattle.changes.proofs.Grids.{run-on-grid, reverse-on-grid, both-on-grid}
-use Rattle.changes.proofs.Sums.{steps-round}
-use Rattle.changes.proofs.Judged.{used-is, used-below, ring-of, ring-on-grid, one-long, two-long, free-is, tests-are}
+use Rattle.judging.proofs.Sums.{steps-round}
+use Rattle.judging.proofs.Judged.{used-is, used-below, ring-of, ring-on-grid, one-long, two-long, free-is, tests-are}
 use Rattle.changes.proofs.Splits.{divided-well-formed, divided-meaning}
 use Rattle.room.proofs.Additions.{given}
 

@@ -20,9 +20,11 @@ use Rattle.register.specs.Sorting.{inUse}
 use Rattle.register.specs.Calls.{Lists, formed, means, Leaves}
 use Rattle.register.proofs.Verdicts.{accepted}
 use Rattle.room.specs.Runs.{verticesOf}
-use Rattle.changes.specs.declared.Changed.the-variants.{Done}
-use Rattle.changes.specs.Splitting.{pieceOne, pieceTwo, lowestUnused, splitTests, split}
-use Rattle.changes.specs.Merging.{merged, mergeTests, merge}
+use Rattle.judging.specs.declared.Changed.the-variants.{Done}
+use Rattle.judging.specs.Splitting.{pieceOne, pieceTwo, lowestUnused, splitTests}
+use Rattle.changes.specs.Afterwards.{split}
+use Rattle.judging.specs.Merging.{merged, mergeTests}
+use Rattle.changes.specs.Afterwards.{merge}
 use Rattle.changes.specs.Calls.{ChangedBy, SplitBy, MergeBy}
 use Rattle.changes.proofs.Outcomes.{accepting}
 

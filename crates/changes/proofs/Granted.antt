@@ -21,11 +21,12 @@ use Rattle.register.proofs.Verdicts.{accepted}
 use Rattle.room.specs.Runs.{verticesOf}
 use Rattle.room.specs.Writing.{numbersOf}
 use Rattle.room.proofs.Forms.{Sound, sound}
-use Rattle.changes.specs.Merging.{merged, mergeTests, merge}
+use Rattle.judging.specs.Merging.{merged, mergeTests}
+use Rattle.changes.specs.Afterwards.{merge}
 use Rattle.changes.specs.Performing.{Pair, Joined}
 use Rattle.changes.proofs.Grids.{run-on-grid, both-on-grid}
-use Rattle.changes.proofs.Judged.{used-is, used-below, ring-of, ring-on-grid, length-of}
-use Rattle.changes.proofs.Matched.{merged-length}
+use Rattle.judging.proofs.Judged.{used-is, used-below, ring-of, ring-on-grid, length-of}
+use Rattle.judging.proofs.Matched.{merged-length}
 use Rattle.changes.proofs.Merges.{joined-well-formed, joined-meaning}
 
 -- what an acceptance tells of the lists' numbers

@@ -1,9 +1,5 @@
-pub mod Sums
 pub mod Splits
 pub mod Merges
-pub mod Matched
-pub mod Answers
-pub mod Judged
 pub mod Grids
 pub mod Accepted
 pub mod Granted

@@ -21,7 +21,7 @@ use Rattle.room.specs.Writing.{numbersOf, Left}
 use Rattle.room.proofs.Written.{run-rest}
 use Rattle.room.proofs.Leaving.{left-total, left-well-formed, left-meaning}
 use Rattle.room.proofs.Additions.{given, added-well-formed, added-meaning}
-use Rattle.changes.specs.Merging.{merged}
+use Rattle.judging.specs.Merging.{merged}
 use Rattle.changes.specs.Performing.{Pair, Joined}
 
 -- the two runs as the code counts them

@@ -6,10 +6,11 @@ use mathlib.Core.Bool.{true}
 use Rattle.districts.specs.Register.{Register}
 use Rattle.register.specs.Verdict.{Verdict, accept, refuse}
 use Rattle.register.specs.Calls.{Lists, formed, means, Leaves}
-use Rattle.changes.specs.declared.Refusal.{Refusal}
-use Rattle.changes.specs.declared.Changed.{Changed}
-use Rattle.changes.specs.declared.Changed.the-variants.{Done, Refused}
-use Rattle.changes.specs.Calls.{numberOf, done, refused, answerOf, answers, ChangedBy}
+use Rattle.judging.specs.declared.Refusal.{Refusal}
+use Rattle.judging.specs.declared.Changed.{Changed}
+use Rattle.judging.specs.declared.Changed.the-variants.{Done, Refused}
+use Rattle.judging.specs.Answers.{numberOf, done, refused, answerOf, answers}
+use Rattle.changes.specs.Calls.{ChangedBy}
 
 -- a number is answered only where nothing is refused, and it is the one
 pub accepting : (v : Verdict) (n e : ℕ) → done e ≡ answers v n → (v ≡ accept) × (e ≡ n)

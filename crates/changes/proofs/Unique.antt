@@ -10,11 +10,12 @@ use Rattle.districts.specs.Register.{Register}
 use Rattle.register.specs.Verdict.{Verdict, accept, refuse}
 use Rattle.register.specs.Calls.{Lists, formed, means, Leaves}
 use Rattle.register.proofs.Unique.{both-left}
-use Rattle.changes.specs.declared.Refusal.{Refusal}
-use Rattle.changes.specs.declared.Refusal.the-variants.{NotWellFormed, NoOutline, OddPath, BeyondGrid, BadNumber, SameDistrict, BadIndex, TooFew, NoMatch, NumbersInUse, NoRoom}
-use Rattle.changes.specs.declared.Changed.{Changed}
-use Rattle.changes.specs.declared.Changed.the-variants.{Done, Refused}
-use Rattle.changes.specs.Calls.{numberOf, Answer, done, refused, answerOf, answers, ChangedBy, SplitBy, MergeBy}
+use Rattle.judging.specs.declared.Refusal.{Refusal}
+use Rattle.judging.specs.declared.Refusal.the-variants.{NotWellFormed, NoOutline, OddPath, BeyondGrid, BadNumber, SameDistrict, BadIndex, TooFew, NoMatch, NumbersInUse, NoRoom}
+use Rattle.judging.specs.declared.Changed.{Changed}
+use Rattle.judging.specs.declared.Changed.the-variants.{Done, Refused}
+use Rattle.judging.specs.Answers.{numberOf, Answer, done, refused, answerOf, answers}
+use Rattle.changes.specs.Calls.{ChangedBy, SplitBy, MergeBy}
 
 -- document 01's numbers read back
 abbrev refusalOf : ℕ → Refusal

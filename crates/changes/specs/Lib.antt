@@ -1,5 +1,3 @@
-pub mod Splitting
-pub mod Merging
+pub mod Afterwards
 pub mod Performing
-pub mod Judging
 pub mod Calls

@@ -1,13 +1,12 @@
 // Merging two districts along a border: both runs leave the store, and the result is written behind all rings.
-use crate::Changed;
-use crate::matching;
+use judging::Changed;
 ghost use mathlib.Core.Path.{_≡_};
 ghost use Prim.Native.Nat.{_+_, _<_, _≤_};
 ghost use lib.ListN.{length};
 ghost use Rattle.ring.specs.Grid.{vertices};
 ghost use Rattle.districts.specs.Lists.{firstPlace, size as sizeOf, part};
-ghost use Rattle.changes.specs.declared.Changed.the-variants.{Done};
-ghost use Rattle.changes.specs.Merging.{merged};
+ghost use Rattle.judging.specs.declared.Changed.the-variants.{Done};
+ghost use Rattle.judging.specs.Merging.{merged};
 ghost use Rattle.changes.specs.Performing.{Pair, Joined};
 ghost use Rattle.changes.specs.Calls.{MergeBy};
 
@@ -97,7 +96,7 @@ pub fn merge(
 ) -> Changed
     ensures { λ r. ⌜ MergeBy r kept a gone b k (record { outline = now (outline .entry); store = now (store .entry); runs = now (runs .entry) }) (record { outline = now (outline .entry); store = now (store .exit); runs = now (runs .exit) }) ⌝ }
 {
-    let verdict = matching::merge(outline, store, runs, kept, a, gone, b, k);
+    let verdict = judging::merge(outline, store, runs, kept, a, gone, b, k);
     match verdict {
         Changed::Done(_) => perform(store, runs, kept, a, gone, b, k),
         Changed::Refused(_) => verdict,

@@ -1,30 +1,15 @@
 // Splitting a district: its run leaves the store, and the two pieces are written from the first free place on.
-use crate::Changed;
-use crate::judging;
+use judging::Changed;
 ghost use mathlib.Core.Path.{_≡_};
 ghost use Prim.Native.Nat.{_+_, _%_, _<_, _≤_};
 ghost use lib.ListN.{length};
 ghost use Rattle.ring.specs.Grid.{vertices};
 ghost use Rattle.districts.specs.Lists.{firstPlace, size as sizeOf, part};
 ghost use Rattle.districts.specs.WellFormed.{total as totalOf};
-ghost use Rattle.changes.specs.declared.Changed.the-variants.{Done};
-ghost use Rattle.room.specs.Runs.{steps as stepsOf};
-ghost use Rattle.changes.specs.Splitting.{pieceOne, pieceTwo};
+ghost use Rattle.judging.specs.declared.Changed.the-variants.{Done};
+ghost use Rattle.judging.specs.Splitting.{pieceOne, pieceTwo};
 ghost use Rattle.changes.specs.Performing.{Divided};
 ghost use Rattle.changes.specs.Calls.{SplitBy};
-
-// How many edges lead from vertex i forward to vertex j, of a ring of n.
-pub fn steps(n: usize, i: usize, j: usize) -> usize
-    requires { ⌜ n ≤ 2048 ⌝ }
-    requires { ⌜ i < n ⌝ }
-    requires { ⌜ j < n ⌝ }
-    ensures { λ r. ⌜ (r ≡ stepsOf n i j) × (r < n) ⌝ }
-{
-    if i <= j {
-        return j - i;
-    }
-    j + n - i
-}
 
 // District d leaves, then takes piece one of the ring it had; number e takes piece two.
 fn divide(
@@ -46,8 +31,8 @@ fn divide(
     requires { ⌜ totalOf (now runs) + 2 + (k + k) ≤ 2048 ⌝ }
     ensures { λ _. ⌜ Divided (now (store .entry)) (now (runs .entry)) d e (pieceOne (vertices (now (ring .entry))) i j (vertices (now (path .entry)))) (pieceTwo (vertices (now (ring .entry))) i j (vertices (now (path .entry)))) (now (store .exit)) (now (runs .exit)) ⌝ }
 {
-    let one = 1 + steps(n, i, j);
-    let two = 1 + steps(n, j, i);
+    let one = 1 + judging::steps(n, i, j);
+    let two = 1 + judging::steps(n, j, i);
     room::remove(store, runs, d);
     room::add_one(store, runs, d, ring, n, i, one, path, k);
     room::add_two(store, runs, e, ring, n, j, two, path, k, 0, k);

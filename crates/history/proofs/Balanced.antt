@@ -20,9 +20,10 @@ use Rattle.register.specs.Verdict.{accept}
 use Rattle.register.specs.Sorting.{inUse}
 use Rattle.register.specs.Founding.{founded}
 use Rattle.room.specs.Runs.{verticesOf}
-use Rattle.changes.specs.Splitting.{lowestUnused, split}
-use Rattle.changes.specs.Merging.{merge}
-use Rattle.changes.proofs.Sums.{split-sum, merge-sum}
+use Rattle.judging.specs.Splitting.{lowestUnused}
+use Rattle.changes.specs.Afterwards.{split}
+use Rattle.changes.specs.Afterwards.{merge}
+use Rattle.judging.proofs.Sums.{split-sum, merge-sum}
 use Rattle.history.specs.Histories.{Call, founding, splitting, merging, reporting, empty, judged, made, after}
 use Rattle.history.specs.Adding.{sumOver, slotSum}
 use Rattle.history.proofs.Every.{every}

@@ -16,9 +16,10 @@ use Rattle.register.specs.Verdict.{Verdict, accept, refuse, verdict}
 use Rattle.register.specs.Sorting.{assigned, assignTests}
 use Rattle.register.specs.Founding.{foundTests, founded}
 use Rattle.register.specs.Calls.{Lists, formed, means, Leaves, verdictOf}
-use Rattle.changes.specs.Splitting.{splitTests, split}
-use Rattle.changes.specs.Merging.{mergeTests, merge}
-use Rattle.history.specs.Histories as Histories
+use Rattle.judging.specs.Splitting.{splitTests}
+use Rattle.changes.specs.Afterwards.{split}
+use Rattle.judging.specs.Merging.{mergeTests}
+use Rattle.changes.specs.Afterwards.{merge}
 use Rattle.history.specs.Histories.{empty, judged, made, taken, step, after}
 use Rattle.history.specs.Adding.{sumOver, slotSum, slotWinding, ClearOf, SaidOne}
 use Rattle.history.specs.Limits.{Within}

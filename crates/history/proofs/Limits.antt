@@ -25,12 +25,14 @@ use Rattle.room.specs.Runs.{run, steps, verticesOf}
 use Rattle.room.specs.Writing.{numbersOf}
 use Rattle.room.proofs.Parts.{sum-but-one}
 use Rattle.room.proofs.Written.{run-length, vertices-numbers, numbers-vertices}
-use Rattle.changes.specs.Splitting.{pieceOne, pieceTwo, lowestUnused, vertexCount, split}
-use Rattle.changes.specs.Merging.{merged, merge}
+use Rattle.judging.specs.Splitting.{pieceOne, pieceTwo, lowestUnused, vertexCount}
+use Rattle.changes.specs.Afterwards.{split}
+use Rattle.judging.specs.Merging.{merged}
+use Rattle.changes.specs.Afterwards.{merge}
 use Rattle.changes.proofs.Grids.{run-on-grid, reverse-on-grid, both-on-grid}
-use Rattle.changes.proofs.Judged.{vertices-half}
-use Rattle.changes.proofs.Matched.{merged-length}
-use Rattle.changes.proofs.Sums.{steps-round}
+use Rattle.judging.proofs.Judged.{vertices-half}
+use Rattle.judging.proofs.Matched.{merged-length}
+use Rattle.judging.proofs.Sums.{steps-round}
 use Rattle.history.specs.Histories.{Call, founding, splitting, merging, reporting, empty, judged, made, after}
 use Rattle.history.specs.Limits.{Allowed, Within}
 use Rattle.history.proofs.Every.{every}

@@ -16,8 +16,8 @@ use Rattle.register.specs.Verdict.{accept}
 use Rattle.register.specs.Sorting.{inUse}
 use Rattle.register.proofs.Verdicts.{accepted}
 use Rattle.room.specs.Runs.{verticesOf}
-use Rattle.changes.specs.Splitting.{pieceOne, pieceTwo, lowestUnused, vertexCount}
-use Rattle.changes.specs.Merging.{matches, merged}
+use Rattle.judging.specs.Splitting.{pieceOne, pieceTwo, lowestUnused, vertexCount}
+use Rattle.judging.specs.Merging.{matches, merged}
 use Rattle.history.specs.Histories.{founding, splitting, merging, judged}
 
 -- ---- slots

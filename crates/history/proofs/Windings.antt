@@ -21,7 +21,7 @@ use Rattle.ring.proofs.Segments.{weighs-segment}
 use Rattle.ring.proofs.Fours.{winding-exact}
 use Rattle.districts.specs.Register.{Slot, unused, ring}
 use Rattle.districts.proofs.Tests.{refuted}
-use Rattle.changes.proofs.Sums.{same-is}
+use Rattle.judging.proofs.Sums.{same-is}
 use Rattle.history.specs.Histories.{Call, empty, after}
 use Rattle.history.specs.Adding.{sumOver, slotSum, slotWinding, Clear, ClearOf}
 use Rattle.history.proofs.Balanced.{districts-add-up}

@@ -9,8 +9,10 @@ use Rattle.districts.specs.Register.{unused, Register, numbers}
 use Rattle.register.specs.Verdict.{Verdict, accept, refuse, verdict}
 use Rattle.register.specs.Founding.{foundTests, founded}
 use Rattle.register.specs.Sorting.{assignTests}
-use Rattle.changes.specs.Splitting.{splitTests, split}
-use Rattle.changes.specs.Merging.{mergeTests, merge}
+use Rattle.judging.specs.Splitting.{splitTests}
+use Rattle.changes.specs.Afterwards.{split}
+use Rattle.judging.specs.Merging.{mergeTests}
+use Rattle.changes.specs.Afterwards.{merge}
 
 -- a call, with all that its caller hands over
 pub data Call : Type 0 where

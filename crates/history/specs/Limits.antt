@@ -7,7 +7,7 @@ use Rattle.ring.specs.Grid.{someBeyond}
 use Rattle.districts.specs.Register.{Slot, unused, ring, Register, numbers, slot}
 use Rattle.register.specs.Sorting.{inUse}
 use Rattle.room.specs.Writing.{numbersOf}
-use Rattle.changes.specs.Splitting.{vertexCount}
+use Rattle.judging.specs.Splitting.{vertexCount}
 
 -- a ring of 3 to 2,048 vertices of the grid, or none
 abbrev pub Allowed : Slot → Type 0

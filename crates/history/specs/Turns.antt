@@ -9,7 +9,7 @@ use Rattle.districts.specs.Answers.{answerOf}
 use Rattle.register.specs.declared.Founded.{Founded}
 use Rattle.register.specs.Sorting.{assigned}
 use Rattle.register.specs.Calls.{Lists, formed, means, FoundBy}
-use Rattle.changes.specs.declared.Changed.{Changed}
+use Rattle.judging.specs.declared.Changed.{Changed}
 use Rattle.changes.specs.Calls.{SplitBy, MergeBy}
 use Rattle.history.specs.Histories as Histories
 use Rattle.history.specs.Histories.{Call}

@@ -2,8 +2,8 @@
 use mathlib.Core.Path.{_≡_, refl, sym, ap, _∙_}
 use Rattle.register.specs.Verdict.{accept, verdict}
 use Rattle.register.specs.Calls.{Lists, formed, means}
-use Rattle.changes.specs.Merging.{mergeTests}
-use Rattle.changes.specs.Calls.{answerOf}
+use Rattle.judging.specs.Merging.{mergeTests}
+use Rattle.judging.specs.Answers.{answerOf}
 use Rattle.changes.proofs.Granted.{joint, pair, merge-well-formed, merge-meaning}
 use Rattle.changes.proofs.Outcomes.{accepting, change-done, change-refused}
 use borrow.Author.Needs.{needs}

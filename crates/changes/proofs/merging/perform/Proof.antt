@@ -4,7 +4,7 @@ use mathlib.Core.Path.{refl, subst₂}
 use Rattle.ring.specs.Grid.{vertices}
 use Rattle.districts.specs.Lists.{firstPlace, size}
 use Rattle.room.proofs.Written.{read-back}
-use Rattle.changes.specs.Merging.{merged}
+use Rattle.judging.specs.Merging.{merged}
 use Rattle.changes.specs.Performing.{Joined}
 use borrow.Author.Needs.{needs}
 use Rattle.changes.proofs.merging.perform.Statement.{statement}

@@ -11,7 +11,7 @@ use Rattle.room.specs.Runs.{run, steps}
 use Rattle.room.specs.Writing.{Added}
 use Rattle.room.proofs.Written.{run-all, one-length}
 use Rattle.room.proofs.Entering.{added-total}
-use Rattle.changes.proofs.Sums.{steps-round}
+use Rattle.judging.proofs.Sums.{steps-round}
 use Rattle.room.proofs.Leaving.{left-total}
 use Rattle.changes.proofs.splitting.divide.Statement.{statement}
 use Rattle.changes.proofs.splitting.divide.Tie as tie

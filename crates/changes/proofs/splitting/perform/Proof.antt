@@ -4,7 +4,7 @@ use mathlib.Core.Path.{refl, subst}
 use Rattle.ring.specs.Grid.{vertices}
 use Rattle.districts.specs.Lists.{firstPlace, size}
 use Rattle.room.proofs.Written.{read-back}
-use Rattle.changes.specs.Splitting.{pieceOne, pieceTwo}
+use Rattle.judging.specs.Splitting.{pieceOne, pieceTwo}
 use Rattle.changes.specs.Performing.{Divided}
 use borrow.Author.Needs.{needs}
 use Rattle.changes.proofs.splitting.perform.Statement.{statement}

@@ -7,11 +7,11 @@ use Rattle.ring.specs.Grid.{vertices}
 use Rattle.districts.specs.Lists.{firstPlace, size, part}
 use Rattle.register.specs.Verdict.{accept, verdict}
 use Rattle.register.specs.Calls.{Lists, formed, means}
-use Rattle.changes.specs.Splitting.{pieceOne, pieceTwo, lowestUnused, splitTests}
-use Rattle.changes.specs.Judging.{lowestFree}
+use Rattle.judging.specs.Splitting.{pieceOne, pieceTwo, lowestUnused, splitTests}
+use Rattle.judging.specs.Judging.{lowestFree}
 use Rattle.changes.specs.Performing.{Divided}
-use Rattle.changes.specs.Calls.{answerOf}
-use Rattle.changes.proofs.Judged.{free-is}
+use Rattle.judging.specs.Answers.{answerOf}
+use Rattle.judging.proofs.Judged.{free-is}
 use Rattle.changes.proofs.Accepted.{right, facts, free, fits, split-below, split-well-formed, split-meaning}
 use Rattle.changes.proofs.Outcomes.{accepting, change-done, change-refused}
 use Rattle.changes.proofs.splitting.split.Statement.{statement}

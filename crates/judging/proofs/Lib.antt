@@ -1,0 +1,4 @@
+pub mod Sums
+pub mod Tables
+pub mod Judged
+pub mod Matched

@@ -1,0 +1,106 @@
+-- `judging::matching::border` asks in document 01's order. Assumes nothing.
+use Prim.Native.Nat.{_+_, _-_, _<_}
+use native.Mathlib.Omega.{arith}
+use mathlib.Core.Path.{_≡_, refl, sym, ap, _∙_}
+use mathlib.Core.Bool.{not, _||_}
+use mathlib.Core.List.{List, _∷_}
+use lib.Dec.{eqb, leb, ltb}
+use lib.ListN.{length}
+use borrow.Author.Tests.{leb-false, lt-ltb, le-ltb, not-true, not-false}
+use Rattle.ring.specs.Grid.{vertices}
+use Rattle.ring.proofs.Pick.{neither-left, neither-right}
+use Rattle.ring.proofs.Vertices.{length-vertices}
+use Rattle.districts.proofs.Tests.{passes-left, passes-right}
+use Rattle.register.specs.Verdict.{Test, _if_, verdict}
+use Rattle.judging.specs.Merging.{matches, merged}
+use Rattle.judging.specs.Answers.{Answer, answers}
+use Rattle.judging.proofs.Tables.{answer-stops, answer-passes, answer-given}
+use Rattle.judging.proofs.Matched.{merged-length}
+use borrow.Author.Needs.{needs}
+use Rattle.judging.proofs.matching.border.Statement.{statement}
+use Rattle.judging.proofs.matching.border.Tie as tie
+
+-- ---- the tests as the table has them, of rings of n and m vertices
+
+long : (s : tie.Start) → (length (vertices (s .args .ring .now)) ≡ s .args .n) × (length (vertices (s .args .other .now)) ≡ s .args .m)
+long s = (length-vertices (s .args .ring .now) (s .args .n) (s .pre .0), length-vertices (s .args .other .now) (s .args .m) (s .pre .1))
+
+indices : (s : tie.Start) → let a = s .args in (leb (a .n) (a .a) || leb (a .m) (a .b)) ≡ (leb (length (vertices (a .ring .now))) (a .a) || leb (length (vertices (a .other .now))) (a .b))
+indices s = λ t. leb (sym (long s .0) t) (s .args .a) || leb (sym (long s .1) t) (s .args .b)
+
+edges : (s : tie.Start) → let a = s .args in (eqb (a .k) 0 || (leb (a .n) (a .k) || leb (a .m) (a .k))) ≡ (eqb (a .k) 0 || (leb (length (vertices (a .ring .now))) (a .k) || leb (length (vertices (a .other .now))) (a .k)))
+edges s = λ t. eqb (s .args .k) 0 || (leb (sym (long s .0) t) (s .args .k) || leb (sym (long s .1) t) (s .args .k))
+
+-- what the first two tests leave: the indices and the edges are fewer than the vertices
+inside : (c : tie.Else2) → let a = c .before .before .args in ((a .a < a .n) × (a .b < a .m)) × ((a .k < a .n) × (a .k < a .m))
+inside c =
+    let a = c .before .before .args in
+    let each = c .before .if1 .left in
+    let most = neither-right (eqb (a .k) 0) _ (c .if2 .left) in (
+      (leb-false (a .n) (a .a) (neither-left _ _ each), leb-false (a .m) (a .b) (neither-right (leb (a .n) (a .a)) _ each)),
+      (leb-false (a .n) (a .k) (neither-left _ _ most), leb-false (a .m) (a .k) (neither-right (leb (a .n) (a .k)) _ most)),
+    )
+
+returns : tie.Need-returns
+returns c = answer-stops 8 _ _ _ (sym (indices (c .before)) ∙ c .if1 .taken)
+
+returns-2 : tie.Need-returns-2
+returns-2 c = answer-passes 8 _ _ _ (sym (indices (c .before .before)) ∙ c .before .if1 .left) (answer-stops 10 _ _ _ (passes-left (sym (edges (c .before .before)) ∙ c .if2 .taken) _))
+
+matches-requires : tie.Need-matches-requires
+matches-requires c κs =
+    let s = c .before .before in
+    ((s .pre .0, inside c .0 .0, inside c .1 .0), (s .pre .1, inside c .0 .1, inside c .1 .1))
+
+returns-3 : tie.Need-returns-3
+returns-3 c =
+    let differ = c .before in
+    let enough = differ .before in
+    let s = enough .before .before in
+    answer-passes 8 _ _ _ (sym (indices s) ∙ enough .before .if1 .left)
+    (answer-stops 10 _ _ _ (passes-right (eqb (s .args .k) 0 || (leb (length (vertices (s .args .ring .now))) (s .args .k) || leb (length (vertices (s .args .other .now))) (s .args .k))) (ap not (sym (differ .matches .ensures) ∙ not-true _ (c .if3 .taken)))))
+
+sub-if4 : tie.Need-sub-if4
+sub-if4 c = let h = inside (c .before .before) .1 .0 in omega arith
+
+sub-if4-2 : tie.Need-sub-if4-2
+sub-if4-2 c = let h = inside (c .before .before) .1 .1 in omega arith
+
+add-if4 : tie.Need-add-if4
+add-if4 c = search needs
+
+few : (c : tie.Else3) → let a = c .before .before .before .before .args in ltb (a .n - a .k + (a .m - a .k)) 3 ≡ ltb (length (merged (vertices (a .ring .now)) (a .a) (vertices (a .other .now)) (a .b) (a .k))) 3
+few c =
+    let enough = c .before .before in
+    let s = enough .before .before in
+    let a = s .args in
+    ap (λ n. ltb n 3) (sym (merged-length (vertices (a .ring .now)) (vertices (a .other .now)) (a .a) (a .b) (a .n) (a .m) (a .k) (long s .0) (long s .1) (inside enough .1 .0) (inside enough .1 .1)))
+
+-- refusals 8 and 10 are passed
+passed : (c : tie.Else3) (r : Answer) (ts : List Test) → let s = c .before .before .before .before in r ≡ answers (verdict ts) (s .args .kept)
+    → r ≡ answers (verdict ((8 if leb (length (vertices (s .args .ring .now))) (s .args .a) || leb (length (vertices (s .args .other .now))) (s .args .b)) ∷ (10 if (eqb (s .args .k) 0 || (leb (length (vertices (s .args .ring .now))) (s .args .k) || leb (length (vertices (s .args .other .now))) (s .args .k))) || not (matches (vertices (s .args .ring .now)) (s .args .a) (vertices (s .args .other .now)) (s .args .b) (s .args .k))) ∷ ts)) (s .args .kept)
+passed c r ts e =
+    let enough = c .before .before in
+    let s = enough .before .before in
+    answer-passes 8 _ _ _ (sym (indices s) ∙ enough .before .if1 .left)
+    (answer-passes 10 _ _ _ (λ t. (sym (edges s) ∙ enough .if2 .left) t || not ((sym (c .before .matches .ensures) ∙ not-false _ (c .if3 .left)) t)) e)
+
+returns-4 : tie.Need-returns-4
+returns-4 c = passed (c .before) _ _ (answer-stops 9 _ _ _ (sym (few (c .before)) ∙ lt-ltb _ 3 (c .if4 .taken)))
+
+returns-5 : tie.Need-returns-5
+returns-5 c = passed (c .before) _ _ (answer-passes 9 _ _ _ (sym (few (c .before)) ∙ le-ltb _ 3 (c .if4 .left)) (answer-given _ _ refl))
+
+pub border-spec : {M : Type 1} → statement M
+border-spec =
+    tie.close
+    (tie.spec
+    returns
+    returns-2
+    matches-requires
+    returns-3
+    sub-if4
+    sub-if4-2
+    add-if4
+    returns-4
+    returns-5)

@@ -1,0 +1,59 @@
+-- `judging::matching::meets` reads both vertices at indices that wrap. Assumes nothing.
+use Prim.Native.Nat.{_+_, _-_}
+use mathlib.Core.Path.{ap, _∙_}
+use Rattle.ring.specs.Grid.{vertices}
+use Rattle.ring.specs.Rings.{at}
+use Rattle.ring.specs.Segment.{same}
+use Rattle.ring.proofs.Vertices.{length-vertices, at-rest}
+use borrow.Author.Needs.{needs}
+use Rattle.judging.proofs.matching.meets.Statement.{statement}
+use Rattle.judging.proofs.matching.meets.Tie as tie
+
+add-around : tie.Need-add-around
+add-around c = search needs
+
+around-requires : tie.Need-around-requires
+around-requires c κs = search needs
+
+vertex-requires : tie.Need-vertex-requires
+vertex-requires c κs = search needs
+
+add-around-2 : tie.Need-add-around-2
+add-around-2 c = search needs
+
+sub-around : tie.Need-sub-around
+sub-around c = search needs
+
+around-requires-2 : tie.Need-around-requires-2
+around-requires-2 c κs = search needs
+
+vertex-requires-2 : tie.Need-vertex-requires-2
+vertex-requires-2 c κs = search needs
+
+same-requires : tie.Need-same-requires
+same-requires c κs = search needs
+
+returns : tie.Need-returns
+returns c =
+    let q = c .before in
+    let p = q .before .before in
+    let s = p .before .before in
+    let P = vertices (s .args .ring .now) in
+    let Q = vertices (s .args .other .now) in
+    let here = p .vertex .ensures ∙ ap (at P) (p .before .around .ensures .0) ∙ at-rest P (s .args .n) (s .args .a + s .args .t) (length-vertices (s .args .ring .now) (s .args .n) (s .pre .0 .0)) in
+    let there = q .vertex2 .ensures ∙ ap (at Q) (q .before .around2 .ensures .0) ∙ at-rest Q (s .args .m) (s .args .b + s .args .m - s .args .t) (length-vertices (s .args .other .now) (s .args .m) (s .pre .1 .0)) in
+    c .same .ensures ∙ (λ i. same (here i) (there i))
+
+pub meets-spec : {M : Type 1} → statement M
+meets-spec =
+    tie.close
+    (tie.spec
+    add-around
+    around-requires
+    vertex-requires
+    add-around-2
+    sub-around
+    around-requires-2
+    vertex-requires-2
+    same-requires
+    returns)

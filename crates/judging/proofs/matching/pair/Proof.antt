@@ -1,0 +1,187 @@
+-- `judging::matching::pair` hands the two rings to `border` as the store holds them. Assumes nothing.
+use Prim.Native.Nat.{ℕ, _+_, _-_, _*_, _<_}
+use native.Mathlib.Omega.{arith}
+use mathlib.Core.Path.{_≡_, sym, ap, _∙_}
+use mathlib.Core.Bool.{Bool, true, false, not, _||_}
+use mathlib.Core.List.{List}
+use lib.Dec.{eqb}
+use lib.IntN.{ℤ}
+use lib.ListN.{length, take, drop}
+use borrow.Author.Tests.{eq-eqb, ne-eqb, eqb-false, not-true, not-false}
+use Rattle.ring.specs.Grid.{vertices}
+use Rattle.ring.proofs.Pick.{neither-left, neither-right}
+use Rattle.districts.specs.Register.{Slot}
+use Rattle.districts.specs.Lists.{firstPlace, size, part, district}
+use Rattle.districts.proofs.Meaning.{ring-when}
+use Rattle.register.specs.Verdict.{verdict}
+use Rattle.register.specs.Sorting.{inUse}
+use Rattle.register.proofs.Rooms.{held-in-use}
+use Rattle.register.proofs.Runs.{cut}
+use Rattle.room.specs.Runs.{verticesOf}
+use Rattle.judging.specs.Judging.{borderTests}
+use Rattle.judging.specs.Answers.{answers}
+use Rattle.judging.proofs.Tables.{answer-stops, answer-passes}
+use borrow.Author.Needs.{needs}
+use Rattle.judging.proofs.matching.pair.Statement.{statement}
+use Rattle.judging.proofs.matching.pair.Tie as tie
+
+in-use-requires : tie.Need-in-use-requires
+in-use-requires c κs = search needs
+
+in-use-requires-2 : tie.Need-in-use-requires-2
+in-use-requires-2 c κs = search needs
+
+abbrev slotOf : tie.Start → ℕ → Slot
+slotOf s d = district (s .args .store .now) (s .args .runs .now) d
+
+-- whether the numbers are in use is told by their sizes
+numbers : (c : tie.After-in-use2) → let s = c .before .before .before in
+    (not (c .before .in-use .result) || not (c .in-use2 .result)) ≡ (not (inUse (slotOf s (s .args .kept))) || not (inUse (slotOf s (s .args .gone))))
+numbers c =
+    let s = c .before .before .before in
+    let runs = s .args .runs .now in
+    let tells : (d : ℕ) → not (eqb (size runs d) 0) ≡ inUse (slotOf s d) = λ d. sym (held-in-use (s .args .store .now) (firstPlace runs d) (size runs d)) in
+    λ t. not ((c .before .in-use .ensures .0 ∙ tells (s .args .kept)) t) || not ((c .in-use2 .ensures .0 ∙ tells (s .args .gone)) t)
+
+-- a number in use is below 64 and has vertices
+some : (runs : List ℕ) (d : ℕ) (r : Bool) → (r ≡ not (eqb (size runs d) 0)) × (r ≡ true → d < 64) → not r ≡ false → (d < 64) × (size runs d ≡ 0 → ⊥)
+some runs d r e f = (e .1 (not-false r f), eqb-false (size runs d) 0 (not-true (eqb (size runs d) 0) (sym (e .0) ∙ not-false r f)))
+
+kept : (c : tie.Else1) → let s = c .before .before .before .before in (s .args .kept < 64) × (size (s .args .runs .now) (s .args .kept) ≡ 0 → ⊥)
+kept c = let s = c .before .before .before .before in some (s .args .runs .now) (s .args .kept) _ (c .before .before .in-use .ensures) (neither-left _ _ (c .if1 .left))
+
+gone : (c : tie.Else1) → let s = c .before .before .before .before in (s .args .gone < 64) × (size (s .args .runs .now) (s .args .gone) ≡ 0 → ⊥)
+gone c = let s = c .before .before .before .before in some (s .args .runs .now) (s .args .gone) _ (c .before .in-use2 .ensures) (neither-right (not (c .before .before .in-use .result)) _ (c .if1 .left))
+
+runs-long : (c : tie.Else1) → length (c .before .before .before .before .args .runs .now) ≡ 129
+runs-long c = c .before .before .before .before .pre .runs-length
+
+-- the ring of a number in use, as the code cuts it
+vertices-of : (store : List ℤ) (runs : List ℕ) (d : ℕ) {f n : ℕ} → f ≡ firstPlace runs d → n ≡ size runs d → (size runs d ≡ 0 → ⊥) → vertices (take (2 * f + 2 * n - 2 * f) (drop (2 * f) store)) ≡ verticesOf (district store runs d)
+vertices-of store runs d {f} {n} e k some = ap vertices (cut store f n ∙ (λ t. part store (e t) (k t))) ∙ sym (ap verticesOf (ring-when store (firstPlace runs d) (size runs d) some))
+
+returns : tie.Need-returns
+returns c = answer-stops 6 _ _ _ (sym (numbers (c .before)) ∙ c .if1 .taken)
+
+returns-2 : tie.Need-returns-2
+returns-2 c =
+    let used = c .before in
+    let a = used .before .before .before .before .args in
+    answer-passes 6 _ _ _ (sym (numbers (used .before)) ∙ used .if1 .left) (answer-stops 7 _ _ _ (eq-eqb (a .kept) (a .gone) (c .if2 .taken)))
+
+size-requires : tie.Need-size-requires
+size-requires c κs = (runs-long (c .before), kept (c .before) .0)
+
+size-requires-2 : tie.Need-size-requires-2
+size-requires-2 c κs = (runs-long (c .before .before), gone (c .before .before) .0)
+
+first-place-requires : tie.Need-first-place-requires
+first-place-requires c κs = (runs-long (c .before .before .before), kept (c .before .before .before) .0)
+
+mul-from : tie.Need-mul-from
+mul-from c = search needs
+
+first-place-requires-2 : tie.Need-first-place-requires-2
+first-place-requires-2 c κs = (runs-long (c .before .before .before .before), gone (c .before .before .before .before) .0)
+
+mul-after : tie.Need-mul-after
+mul-after c = search needs
+
+mul-to : tie.Need-mul-to
+mul-to c = search needs
+
+add-to : tie.Need-add-to
+add-to c = search needs
+
+mul-end : tie.Need-mul-end
+mul-end c = search needs
+
+add-end : tie.Need-add-end
+add-end c = search needs
+
+mul-border : tie.Need-mul-border
+mul-border c = search needs
+
+sub-border : tie.Need-sub-border
+sub-border c = search needs
+
+part-border-start : tie.Need-part-border-start
+part-border-start c = search needs
+
+part-border-end : tie.Need-part-border-end
+part-border-end c =
+    let first = c .before .before .before in
+    let used = first .before .before in
+    let s = used .before .before .before .before in
+    let some = kept used .1 in
+    let fits = s .pre .fits (s .args .kept) (kept used .0) (omega (arith, some)) in
+    omega (arith, fits, c .before .first-place .ensures .0, first .size .ensures .0, s .pre .store-length)
+
+mul-border-2 : tie.Need-mul-border-2
+mul-border-2 c = search needs
+
+sub-border-2 : tie.Need-sub-border-2
+sub-border-2 c = search needs
+
+part-border-start-2 : tie.Need-part-border-start-2
+part-border-start-2 c = search needs
+
+part-border-end-2 : tie.Need-part-border-end-2
+part-border-end-2 c =
+    let place = c .before in
+    let second = place .before .before in
+    let used = second .before .before .before in
+    let s = used .before .before .before .before in
+    let some = gone used .1 in
+    let fits = s .pre .fits (s .args .gone) (gone used .0) (omega (arith, some)) in
+    omega (arith, fits, place .first-place2 .ensures .0, second .size2 .ensures .0, s .pre .store-length)
+
+border-requires : tie.Need-border-requires
+border-requires c κs = search needs
+
+returns-3 : tie.Need-returns-3
+returns-3 c =
+    let place₂ = c .before .before .before in
+    let place = place₂ .before in
+    let size₂ = place .before in
+    let size₁ = size₂ .before in
+    let differ = size₁ .before in
+    let used = differ .before in
+    let s = used .before .before .before .before in
+    let a = s .args in
+    let store = a .store .now in
+    let runs = a .runs .now in
+    let P = vertices-of store runs (a .kept) (place .first-place .ensures .0) (size₁ .size .ensures .0) (kept used .1) in
+    let Q = vertices-of store runs (a .gone) (place₂ .first-place2 .ensures .0) (size₂ .size2 .ensures .0) (gone used .1) in
+    answer-passes 6 _ _ _ (sym (numbers (used .before)) ∙ used .if1 .left)
+    (answer-passes 7 _ _ _ (ne-eqb (a .kept) (a .gone) (differ .if2 .left))
+    (c .border .ensures ∙ (λ t. answers (verdict (borderTests (P t) (a .a) (Q t) (a .b) (a .k))) (a .kept))))
+
+pub pair-spec : {M : Type 1} → statement M
+pair-spec =
+    tie.close
+    (tie.spec
+    in-use-requires
+    in-use-requires-2
+    returns
+    returns-2
+    size-requires
+    size-requires-2
+    first-place-requires
+    mul-from
+    first-place-requires-2
+    mul-after
+    mul-to
+    add-to
+    mul-end
+    add-end
+    mul-border
+    sub-border
+    part-border-start
+    part-border-end
+    mul-border-2
+    sub-border-2
+    part-border-start-2
+    part-border-end-2
+    border-requires
+    returns-3)

@@ -1,0 +1,4 @@
+pub mod Splitting
+pub mod Merging
+pub mod Judging
+pub mod Answers
