@@ -1,16 +1,15 @@
 -- What the acceptance of a split tells, and that what was performed is document 01's split. Assumes nothing.
 use Prim.Native.Nat.{ℕ, suc, _+_, _/_, _%_, _≤_, _<_}
 use native.Mathlib.Omega.{arith}
-use mathlib.Core.Path.{_≡_, refl, sym, ap, _∙_}
-use mathlib.Core.Bool.{true, false, _||_}
+use mathlib.Core.Path.{_≡_, refl, sym, ap, subst, _∙_}
+use mathlib.Core.Bool.{true, false}
 use mathlib.Core.List.{List, reverse}
-use lib.Dec.{eqb, leb, ltb}
+use lib.Dec.{eqb}
 use lib.IntN.{ℤ}
 use lib.ListN.{length}
-use borrow.Author.Tests.{eqb-true, eqb-false, leb-false, ltb-false, not-true, not-false}
+use borrow.Author.Tests.{eqb-true, eqb-false, not-true, not-false}
 use Rattle.ring.specs.declared.Point.{Point}
 use Rattle.ring.specs.Grid.{vertices, someBeyond}
-use Rattle.ring.proofs.Pick.{neither-left, neither-right}
 use Rattle.districts.specs.Register.{slot}
 use Rattle.districts.specs.Lists.{outlineSize, firstPlace, size, part, meaning}
 use Rattle.districts.specs.WellFormed.{total, wellFormed}
@@ -28,7 +27,8 @@ use Rattle.room.proofs.Forms.{Sound, sound}
 use Rattle.room.proofs.Written.{numbers-vertices}
 use Rattle.changes.proofs.Grids.{run-on-grid, reverse-on-grid, both-on-grid}
 use Rattle.judging.proofs.Sums.{steps-round}
-use Rattle.judging.proofs.Judged.{used-is, used-below, ring-of, ring-on-grid, one-long, two-long, free-is, tests-are}
+use Rattle.judging.proofs.Judged.{used-is, used-below, ring-of, ring-on-grid, length-of, one-long, two-long, free-is, count-is}
+use Rattle.judging.proofs.Told.{Splittable, split-told}
 use Rattle.changes.proofs.Splits.{divided-well-formed, divided-meaning}
 use Rattle.room.proofs.Additions.{given}
 
@@ -41,8 +41,6 @@ pub record Free (runs : List ℕ) (d i j : ℕ) (path : List ℤ) : Type 0 where
   pub differ : i ≡ j → ⊥
   pub even : length path % 2 ≡ 0
   pub grid : someBeyond path ≡ false
-  pub first : 3 ≤ suc (steps (size runs d) i j) + length path / 2
-  pub second : 3 ≤ suc (steps (size runs d) j i) + length path / 2
   pub number : lowestFree runs < 64
   pub room : total runs + 2 + length path ≤ 2048
 
@@ -54,34 +52,24 @@ module _ (outline store : List ℤ) (runs : List ℕ) (d i j : ℕ) (path : List
   pub facts : Sound outline store runs
   facts = sound outline store runs right
 
+  told : Splittable (meaning outline store runs) d i j path
+  told = split-told (wellFormed outline store runs) (meaning outline store runs) d i j path yes
+
   pub free : Free runs d i j path
   free =
-      let n = size runs d in
-      let k = length path / 2 in
-      let t2 = accepted 2 _ _ (accepted 1 _ _ (ap verdict (sym (tests-are outline store runs right d i j path (wellFormed outline store runs))) ∙ yes) .1) in
-      let t6 = accepted 6 _ _ (t2 .1) in
-      let t8 = accepted 8 _ _ (t6 .1) in
-      let t4 = accepted 4 _ _ (t8 .1) in
-      let t5 = accepted 5 _ _ (t4 .1) in
-      let t9 = accepted 9 _ _ (t5 .1) in
-      let t11 = accepted 11 _ _ (t9 .1) in
-      let t12 = accepted 12 _ _ (t11 .1) in
-      let outlined = not-true (eqb (outlineSize runs) 0) (sym (outline-in-use outline store runs) ∙ not-false _ (t2 .0)) in
-      let in-use = not-true (eqb n 0) (sym (used-is outline store runs right d) ∙ not-false _ (t6 .0)) in
-      let indices = neither-left (leb n i || leb n j) (eqb i j) (t8 .0) in
-      let not-one = eqb-false (length path % 2) 1 (t4 .0) in
+      let n = length-of outline store runs right d in
+      let in-use = not-true (eqb (size runs d) 0) (sym (used-is outline store runs right d) ∙ told .used) in
+      let outlined = not-true (eqb (outlineSize runs) 0) (sym (outline-in-use outline store runs) ∙ told .outlined) in
       record {
         some = let none = eqb-false (outlineSize runs) 0 outlined in omega (arith, none);
-        used = eqb-false n 0 in-use;
-        lower = leb-false n i (neither-left (leb n i) (leb n j) indices);
-        other = leb-false n j (neither-right (leb n i) (leb n j) indices);
-        differ = eqb-false i j (neither-right (leb n i || leb n j) (eqb i j) (t8 .0));
-        even = omega (arith, not-one);
-        grid = t5 .0;
-        first = ltb-false (suc (steps n i j) + k) 3 (neither-left (ltb (suc (steps n i j) + k) 3) (ltb (suc (steps n j i) + k) 3) (t9 .0));
-        second = ltb-false (suc (steps n j i) + k) 3 (neither-right (ltb (suc (steps n i j) + k) 3) (ltb (suc (steps n j i) + k) 3) (t9 .0));
-        number = leb-false 64 (lowestFree runs) (t11 .0);
-        room = ltb-false 2048 (total runs + 2 + length path) (t12 .0);
+        used = eqb-false (size runs d) 0 in-use;
+        lower = omega (arith, n, told .lower);
+        other = omega (arith, n, told .other);
+        differ = told .differ;
+        even = told .even;
+        grid = told .grid;
+        number = omega (arith, free-is outline store runs right, told .number);
+        room = omega (arith, count-is outline store runs right, told .room);
       }
 
   -- the ring of the district, and its pieces
@@ -138,7 +126,8 @@ module _ (outline store : List ℤ) (runs : List ℕ) (d i j : ℕ) (path : List
     used′ = let some = free .used in omega (arith, some)
 
     least : (3 ≤ length (pieceOne P i j W)) × (3 ≤ length (pieceTwo P i j W))
-    least = let a = free .first in let b = free .second in (omega (arith, one-is, a), omega (arith, two-is, b))
+    unfolding W
+    least = (subst (λ Q. 3 ≤ length (pieceOne Q i j W)) ring-is (told .first), subst (λ Q. 3 ≤ length (pieceTwo Q i j W)) ring-is (told .second))
 
     well : wellFormed outline store′ runs′ ≡ true
     well = divided-well-formed outline store runs d (lowestFree runs) (pieceOne P i j W) (pieceTwo P i j W) store′ runs′ right (free .some) below used′ (free .number) unused-number least room-for grids v

@@ -1,16 +1,15 @@
 -- What the acceptance of a merge tells, and that what was performed is document 01's merge. Assumes nothing.
 use Prim.Native.Nat.{ℕ, _+_, _-_, _≤_, _<_}
 use native.Mathlib.Omega.{arith}
-use mathlib.Core.Path.{_≡_, sym, ap, _∙_}
-use mathlib.Core.Bool.{true, false, not, _||_}
+use mathlib.Core.Path.{_≡_, sym, ap, subst, _∙_}
+use mathlib.Core.Bool.{true, false}
 use mathlib.Core.List.{List}
-use lib.Dec.{eqb, leb}
+use lib.Dec.{eqb}
 use lib.IntN.{ℤ}
 use lib.ListN.{length, set}
-use borrow.Author.Tests.{eqb-false, leb-false, ltb-false, not-true, not-false}
+use borrow.Author.Tests.{eqb-false, not-true, not-false}
 use Rattle.ring.specs.declared.Point.{Point}
 use Rattle.ring.specs.Grid.{vertices, someBeyond}
-use Rattle.ring.proofs.Pick.{neither-left, neither-right}
 use Rattle.districts.specs.Register.{unused, ring, slot}
 use Rattle.districts.specs.Lists.{outlineSize, firstPlace, size, part, meaning}
 use Rattle.districts.specs.WellFormed.{wellFormed}
@@ -26,6 +25,7 @@ use Rattle.changes.specs.Afterwards.{merge}
 use Rattle.changes.specs.Performing.{Pair, Joined}
 use Rattle.changes.proofs.Grids.{run-on-grid, both-on-grid}
 use Rattle.judging.proofs.Judged.{used-is, used-below, ring-of, ring-on-grid, length-of}
+use Rattle.judging.proofs.Told.{Mergeable, merge-told}
 use Rattle.judging.proofs.Matched.{merged-length}
 use Rattle.changes.proofs.Merges.{joined-well-formed, joined-meaning}
 
@@ -56,35 +56,25 @@ module _ (outline store : List ℤ) (runs : List ℕ) (A a B b k : ℕ)
   long : (d : ℕ) → length (ringOf d) ≡ size runs d
   long d = length-of outline store runs right d
 
-  used : (d : ℕ) → not (inUse (slot (meaning outline store runs) d)) ≡ false → size runs d ≡ 0 → ⊥
-  used d e = eqb-false (size runs d) 0 (not-true (eqb (size runs d) 0) (sym (used-is outline store runs right d) ∙ not-false _ e))
+  told : Mergeable (meaning outline store runs) A a B b k
+  told = merge-told (wellFormed outline store runs) (meaning outline store runs) A a B b k yes
+
+  used : (d : ℕ) → inUse (slot (meaning outline store runs) d) ≡ true → size runs d ≡ 0 → ⊥
+  used d e = eqb-false (size runs d) 0 (not-true (eqb (size runs d) 0) (sym (used-is outline store runs right d) ∙ e))
 
   pub joint : Joint runs A a B b k
   joint =
-      let t2 = accepted 2 _ _ (accepted 1 _ _ yes .1) in
-      let t6 = accepted 6 _ _ (t2 .1) in
-      let t7 = accepted 7 _ _ (t6 .1) in
-      let t8 = accepted 8 _ _ (t7 .1) in
-      let t10 = accepted 10 _ _ (t8 .1) in
-      let outlined = not-true (eqb (outlineSize runs) 0) (sym (outline-in-use outline store runs) ∙ not-false _ (t2 .0)) in
-      let edges = neither-left (eqb k 0 || (leb (length (ringOf A)) k || leb (length (ringOf B)) k)) _ (t10 .0) in
-      let most = neither-right (eqb k 0) (leb (length (ringOf A)) k || leb (length (ringOf B)) k) edges in
-      let none = eqb-false (outlineSize runs) 0 outlined in
-      let nought = eqb-false k 0 (neither-left (eqb k 0) _ edges) in
-      let lower = leb-false (length (ringOf A)) a (neither-left (leb (length (ringOf A)) a) (leb (length (ringOf B)) b) (t8 .0)) in
-      let other = leb-false (length (ringOf B)) b (neither-right (leb (length (ringOf A)) a) (leb (length (ringOf B)) b) (t8 .0)) in
-      let fewer = leb-false (length (ringOf A)) k (neither-left (leb (length (ringOf A)) k) (leb (length (ringOf B)) k) most) in
-      let also = leb-false (length (ringOf B)) k (neither-right (leb (length (ringOf A)) k) (leb (length (ringOf B)) k) most) in
+      let outlined = not-true (eqb (outlineSize runs) 0) (sym (outline-in-use outline store runs) ∙ told .outlined) in
       record {
-        some = omega (arith, none);
-        kept = used A (neither-left (not (inUse (slot (meaning outline store runs) A))) (not (inUse (slot (meaning outline store runs) B))) (t6 .0));
-        gone = used B (neither-right (not (inUse (slot (meaning outline store runs) A))) (not (inUse (slot (meaning outline store runs) B))) (t6 .0));
-        differ = eqb-false A B (t7 .0);
-        first = omega (arith, lower, long A);
-        second = omega (arith, other, long B);
-        least = omega (arith, nought);
-        fewer = omega (arith, fewer, long A);
-        also = omega (arith, also, long B);
+        some = let none = eqb-false (outlineSize runs) 0 outlined in omega (arith, none);
+        kept = used A (told .kept);
+        gone = used B (told .gone);
+        differ = told .differ;
+        first = omega (arith, long A, told .first);
+        second = omega (arith, long B, told .second);
+        least = told .least;
+        fewer = omega (arith, long A, told .fewer);
+        also = omega (arith, long B, told .also);
       }
 
   pub pair : Pair store runs A B
@@ -125,10 +115,7 @@ module _ (outline store : List ℤ) (runs : List ℕ) (A a B b k : ℕ)
   result-long = ap length (sym rings-are) ∙ merged-length (ringOf A) (ringOf B) a b (size runs A) (size runs B) k (long A) (long B) (joint .fewer) (joint .also)
 
   enough : 3 ≤ length (merged P a Q b k)
-  enough =
-      let t9 = accepted 9 _ _ (accepted 10 _ _ (accepted 8 _ _ (accepted 7 _ _ (accepted 6 _ _ (accepted 2 _ _ (accepted 1 _ _ yes .1) .1) .1) .1) .1) .1) in
-      let least = ltb-false (length (merged (ringOf A) a (ringOf B) b k)) 3 (t9 .0) in
-      omega (arith, least, ap length rings-are)
+  enough = subst (λ R. 3 ≤ length R) rings-are (told .enough)
 
   grid : someBeyond (numbersOf (merged P a Q b k)) ≡ false
   unfolding P Q

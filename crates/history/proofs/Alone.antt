@@ -30,7 +30,7 @@ use Rattle.register.specs.Sorting.{rests, winds, ofSlot, onBorder, windsAbout, 
 use Rattle.register.proofs.Verdicts.{passes, passed-all, answer-given}
 use Rattle.history.specs.Histories.{Call, empty, after}
 use Rattle.history.specs.Adding.{sumOver, slotWinding, Clear, ClearOf, SaidOne}
-use Rattle.history.proofs.Told.{used-below}
+use Rattle.judging.proofs.Told.{used-below}
 use Rattle.history.proofs.Balanced.{balanced}
 use Rattle.history.proofs.Windings.{no-vertex, windings-add-up}
 

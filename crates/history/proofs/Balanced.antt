@@ -3,7 +3,7 @@
 use Prim.Native.Nat.{ℕ, suc, _<_}
 use native.Mathlib.Omega.{arith}
 use mathlib.Core.Path.{_≡_, refl, sym, ap, _∙_}
-use mathlib.Core.Bool.{not}
+use mathlib.Core.Bool.{true, not}
 use mathlib.Core.List.{List}
 use lib.Dec.{eqb}
 use lib.IntN.{ℤ, _+ℤ_, +ℤ-idr}
@@ -27,7 +27,7 @@ use Rattle.judging.proofs.Sums.{split-sum, merge-sum}
 use Rattle.history.specs.Histories.{Call, founding, splitting, merging, reporting, empty, judged, made, after}
 use Rattle.history.specs.Adding.{sumOver, slotSum}
 use Rattle.history.proofs.Every.{every}
-use Rattle.history.proofs.Told.{used-ring, unused-slot, used-below, split-told, merge-told}
+use Rattle.judging.proofs.Told.{used-ring, unused-slot, used-below, split-told, merge-told}
 use Rattle.history.proofs.Slots.{sum-none, two-set}
 
 pub record Balanced (f : Weight) (g : Register) : Type 0 where
@@ -58,9 +58,9 @@ module _ (f : Weight) (anti : Antisymmetric f) where
       only d = pick (eqb d 0) (ring (vertices xs)) unused
 
   split-balanced : (g : Register) (d i j : ℕ) (path : List ℤ) → Balanced f g → judged g (splitting d i j path) ≡ accept → Balanced f (split g d i j (vertices path))
-  unfolding split
+  unfolding judged split
   split-balanced g d i j path b fine =
-      let t = split-told g d i j path fine in
+      let t = split-told true g d i j path fine in
       let P = verticesOf (slot g d) in
       let its = used-ring (slot g d) (t .used) in
       let free = new-unused g (t .number) in
@@ -83,9 +83,9 @@ module _ (f : Weight) (anti : Antisymmetric f) where
           pegged (ring P) = 1
 
   merge-balanced : (g : Register) (A a B b k : ℕ) → Balanced f g → judged g (merging A a B b k) ≡ accept → Balanced f (merge g A a B b k)
-  unfolding merge
+  unfolding judged merge
   merge-balanced g A a B b k bal fine =
-      let t = merge-told g A a B b k fine in
+      let t = merge-told true g A a B b k fine in
       let P = verticesOf (slot g A) in
       let Q = verticesOf (slot g B) in
       let its = used-ring (slot g A) (t .kept) in

@@ -1,5 +1,4 @@
 pub mod Every
-pub mod Told
 pub mod Slots
 pub mod Balanced
 pub mod Windings

@@ -11,7 +11,7 @@ use lib.ListN.{length, set, length-set, length-append, length-reverse, List·get
 use lib.Seq.{getD-set-same, getD-set-other}
 use borrow.Author.Tests.{eqb-false, ltb-false, ne-eqb}
 use Rattle.ring.specs.declared.Point.{Point}
-use Rattle.ring.specs.Grid.{pick, vertices, someBeyond}
+use Rattle.ring.specs.Grid.{pick, vertices, noRing, someBeyond}
 use Rattle.ring.proofs.Pick.{pick-false, neither-left, neither-right}
 use Rattle.districts.specs.Counts.{sumTo}
 use Rattle.districts.specs.Register.{Slot, unused, ring, Register, slot}
@@ -19,6 +19,7 @@ use Rattle.districts.proofs.Counting.{term-most}
 use Rattle.districts.proofs.Meaning.{list-at, list-past, list-long}
 use Rattle.districts.proofs.Sums.{sum-same}
 use Rattle.register.specs.Verdict.{accept}
+use Rattle.register.proofs.Verdicts.{accepted}
 use Rattle.register.specs.Sorting.{inUse}
 use Rattle.register.specs.Founding.{founded}
 use Rattle.room.specs.Runs.{run, steps, verticesOf}
@@ -36,7 +37,7 @@ use Rattle.judging.proofs.Sums.{steps-round}
 use Rattle.history.specs.Histories.{Call, founding, splitting, merging, reporting, empty, judged, made, after}
 use Rattle.history.specs.Limits.{Allowed, Within}
 use Rattle.history.proofs.Every.{every}
-use Rattle.history.proofs.Told.{used-below, Foundable, found-told, split-told, merge-told}
+use Rattle.judging.proofs.Told.{used-below, split-told, merge-told}
 use Rattle.history.proofs.Balanced.{new-unused}
 use Rattle.history.proofs.Alone.{sum-front, no-terms}
 
@@ -146,6 +147,17 @@ empty-within = record {
       | no more ↦ list-past 64 (λ k. unused) unused d (omega (arith, more))
     ]
 
+-- what the acceptance of a founding tells
+record Foundable (xs : List ℤ) : Type 0 where
+  whole : noRing (length xs) (length xs / 2) ≡ false
+  grid : someBeyond xs ≡ false
+
+found-told : (g : Register) (xs : List ℤ) → judged g (founding xs) ≡ accept → Foundable xs
+unfolding judged
+found-told g xs fine =
+    let t4 = accepted 4 _ _ (accepted 3 _ _ (accepted 1 _ _ fine .1) .1) in
+    record { whole = t4 .0; grid = accepted 5 _ _ (t4 .1) .0 }
+
 founded-within : (xs : List ℤ) → Foundable xs → Within (founded xs)
 unfolding founded vertexCount
 founded-within xs f = record {
@@ -190,9 +202,9 @@ piece-long : (P W : List Point) (i j k : ℕ) → length W ≡ k → length (run
 piece-long P W i j k e = length-append (run P i (suc (steps (length P) i j))) W ∙ (λ t. run-length P i (suc (steps (length P) i j)) t + e t)
 
 split-within : (g : Register) (d i j : ℕ) (path : List ℤ) → Within g → judged g (splitting d i j path) ≡ accept → Within (split g d i j (vertices path))
-unfolding split changed
+unfolding judged split changed
 split-within g d i j path w fine =
-    let t = split-told g d i j path fine in
+    let t = split-told true g d i j path fine in
     let P = verticesOf (slot g d) in
     let W = vertices path in
     let k = length path / 2 in
@@ -219,9 +231,9 @@ split-within g d i j path w fine =
     clash e = let same : _≡_ {A = ℕ} 0 1 = ap (λ b. pick b 1 0) e in omega arith
 
 merge-within : (g : Register) (A a B b k : ℕ) → Within g → judged g (merging A a B b k) ≡ accept → Within (merge g A a B b k)
-unfolding merge changed
+unfolding judged merge changed
 merge-within g A a B b k w fine =
-    let t = merge-told g A a B b k fine in
+    let t = merge-told true g A a B b k fine in
     let P = verticesOf (slot g A) in
     let Q = verticesOf (slot g B) in
     let first : A < 64 = subst (λ (n : ℕ). A < n) (w .full) (used-below g A (t .kept)) in

@@ -1,24 +1,23 @@
--- What the acceptance of a call tells of the register. Assumes nothing.
-use Prim.Native.Nat.{ℕ, _+_, _%_, _/_, _≤_, _<_}
+-- What the acceptance of a change tells of the register. Assumes nothing.
+use Prim.Native.Nat.{ℕ, _+_, _%_, _≤_, _<_}
 use native.Mathlib.Decide.{decLt}
 use native.Mathlib.Omega.{arith}
 use mathlib.Core.Path.{_≡_, refl, sym, ap, _∙_}
-use mathlib.Core.Bool.{true, false, not, _||_}
+use mathlib.Core.Bool.{Bool, true, false, not, _||_}
 use mathlib.Core.List.{List}
 use lib.Dec.{eqb, leb, ltb}
 use lib.IntN.{ℤ}
 use lib.ListN.{length, List·getD-eq-default}
 use borrow.Author.Tests.{eqb-false, leb-false, ltb-false, not-false}
-use Rattle.ring.specs.Grid.{pick, vertices, noRing, someBeyond}
+use Rattle.ring.specs.Grid.{pick, vertices, someBeyond}
 use Rattle.ring.proofs.Pick.{neither-left, neither-right}
 use Rattle.districts.specs.Register.{Slot, unused, ring, Register, slot}
-use Rattle.register.specs.Verdict.{accept}
+use Rattle.register.specs.Verdict.{accept, verdict}
 use Rattle.register.specs.Sorting.{inUse}
 use Rattle.register.proofs.Verdicts.{accepted}
 use Rattle.room.specs.Runs.{verticesOf}
-use Rattle.judging.specs.Splitting.{pieceOne, pieceTwo, lowestUnused, vertexCount}
-use Rattle.judging.specs.Merging.{matches, merged}
-use Rattle.history.specs.Histories.{founding, splitting, merging, judged}
+use Rattle.judging.specs.Splitting.{pieceOne, pieceTwo, lowestUnused, vertexCount, splitTests}
+use Rattle.judging.specs.Merging.{matches, merged, mergeTests}
 
 -- ---- slots
 
@@ -39,18 +38,6 @@ used-below g d e = elim (decLt d (length (g .districts))) [
       absurd (let f : ⊥ = omega arith in f)
 ]
 
--- ---- founding
-
-pub record Foundable (xs : List ℤ) : Type 0 where
-  pub whole : noRing (length xs) (length xs / 2) ≡ false
-  pub grid : someBeyond xs ≡ false
-
-pub found-told : (g : Register) (xs : List ℤ) → judged g (founding xs) ≡ accept → Foundable xs
-unfolding judged
-found-told g xs fine =
-    let t4 = accepted 4 _ _ (accepted 3 _ _ (accepted 1 _ _ fine .1) .1) in
-    record { whole = t4 .0; grid = accepted 5 _ _ (t4 .1) .0 }
-
 -- ---- splitting
 
 pub record Splittable (g : Register) (d i j : ℕ) (path : List ℤ) : Type 0 where
@@ -66,9 +53,8 @@ pub record Splittable (g : Register) (d i j : ℕ) (path : List ℤ) : Type 0 wh
   pub number : lowestUnused g < 64
   pub room : vertexCount g + 2 + length path ≤ 2048
 
-pub split-told : (g : Register) (d i j : ℕ) (path : List ℤ) → judged g (splitting d i j path) ≡ accept → Splittable g d i j path
-unfolding judged
-split-told g d i j path fine =
+pub split-told : (b : Bool) (g : Register) (d i j : ℕ) (path : List ℤ) → verdict (splitTests b g d i j path) ≡ accept → Splittable g d i j path
+split-told b g d i j path fine =
     let P = verticesOf (slot g d) in
     let n = length P in
     let one = length (pieceOne P i j (vertices path)) in
@@ -112,9 +98,8 @@ pub record Mergeable (g : Register) (A a B b k : ℕ) : Type 0 where
   pub match : matches (verticesOf (slot g A)) a (verticesOf (slot g B)) b k ≡ true
   pub enough : 3 ≤ length (merged (verticesOf (slot g A)) a (verticesOf (slot g B)) b k)
 
-pub merge-told : (g : Register) (A a B b k : ℕ) → judged g (merging A a B b k) ≡ accept → Mergeable g A a B b k
-unfolding judged
-merge-told g A a B b k fine =
+pub merge-told : (w : Bool) (g : Register) (A a B b k : ℕ) → verdict (mergeTests w g A a B b k) ≡ accept → Mergeable g A a B b k
+merge-told w g A a B b k fine =
     let P = verticesOf (slot g A) in
     let Q = verticesOf (slot g B) in
     let t2 = accepted 2 _ _ (accepted 1 _ _ fine .1) in
