@@ -1,5 +1,6 @@
 -- What every accepted call keeps holds after any list of calls. Assumes nothing.
-use mathlib.Core.Path.{_≡_, refl}
+use Prim.Native.Nat.{ℕ}
+use mathlib.Core.Path.{_≡_, refl, ap}
 use mathlib.Core.List.{List, [], _∷_}
 use Rattle.districts.specs.Register.{Register}
 use Rattle.register.specs.Verdict.{Verdict, accept, refuse}
@@ -18,3 +19,8 @@ module _ (I : Register → Type 0) (keeps : (g : Register) (c : Call) → I g �
   unfolding after
   every g holds [] = holds
   every g holds (c ∷ cs) = every (step g c) (once g c holds) cs
+
+-- a refused call changes nothing
+pub refused-keeps : (g : Register) (c : Call) (n : ℕ) → judged g c ≡ refuse n → step g c ≡ g
+unfolding step
+refused-keeps g c n e = ap (λ v. taken v g (made g c)) e
