@@ -1,0 +1,3 @@
+// x
+mod lists;
+mod making;
