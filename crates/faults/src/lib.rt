@@ -1,8 +1,13 @@
 // x
+mod asking;
 mod damaging;
 mod lists;
 mod littering;
 mod making;
+mod refusing;
+
+pub use refusing::Refusals;
+pub use refusing::damaged;
 
 // What is wrong with a register.
 pub enum Damage {
