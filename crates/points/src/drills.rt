@@ -1,0 +1,61 @@
+// The drills of `faults`, a line for each kind of damage: what was asked, and how many answered otherwise than they must.
+use crate::say;
+use crate::tally::Tally;
+use faults::Damage;
+
+// A seed of its own, so that the drills are the same whatever is asked before them.
+const SEED: usize = 19_991_231;
+
+const REGISTERS: usize = 300;
+
+pub fn all(start: Tally) -> Tally {
+    let mut seed = SEED;
+    let mut t = lengths(start, &mut seed);
+    t = sizes(t, &mut seed);
+    t = packing(t, &mut seed);
+    coordinates(t, &mut seed)
+}
+
+fn lengths(start: Tally, seed: &mut usize) -> Tally {
+    let mut t = damaged(b"outline list of a wrong length", Damage::OutlineLength, start, seed);
+    t = damaged(b"store of a wrong length", Damage::StoreLength, t, seed);
+    damaged(b"list of runs of a wrong length", Damage::RunsLength, t, seed)
+}
+
+fn sizes(start: Tally, seed: &mut usize) -> Tally {
+    let mut t = damaged(b"outline of 1, 2 or 2049 vertices", Damage::OutlineSize, start, seed);
+    t = damaged(b"district of 1, 2 or 2049 vertices", Damage::DistrictSize, t, seed);
+    t = damaged(b"districts beside no outline", Damage::NoOutline, t, seed);
+    damaged(b"more than 2048 vertices of districts", Damage::TooMany, t, seed)
+}
+
+fn packing(start: Tally, seed: &mut usize) -> Tally {
+    let mut t = damaged(b"runs that overlap", Damage::Overlap, start, seed);
+    t = damaged(b"gap between or before runs", Damage::Gap, t, seed);
+    t = damaged(b"run beyond the store", Damage::BeyondStore, t, seed);
+    damaged(b"first place or size near 2^32 or 2^31", Damage::Huge, t, seed)
+}
+
+fn coordinates(start: Tally, seed: &mut usize) -> Tally {
+    let t = damaged(b"outline beyond the grid", Damage::OutlineCoordinate, start, seed);
+    damaged(b"district beyond the grid", Damage::StoreCoordinate, t, seed)
+}
+
+fn damaged(name: &[u8], what: Damage, t: Tally, seed: &mut usize) -> Tally {
+    let r = faults::damaged(what, REGISTERS, seed);
+    say::text(name);
+    say::counted(b": registers ", r.registers);
+    say::counted(b", asked ", r.asked);
+    say::counted(b", refused 1: ", r.refused);
+    say::counted(b", changed ", r.changed);
+    say::counted(b", differ ", r.differ);
+    say::text(b"\n");
+    with(t, r.asked, r.differ)
+}
+
+fn with(t: Tally, asked: usize, differ: usize) -> Tally {
+    let mut u = t.started();
+    u.asked = asked;
+    u.differ = differ;
+    t.with(u)
+}
