@@ -1,7 +1,7 @@
 // The calls that a damaged register is handed to. Each has to answer refusal 1 before any other, so what else it is handed is drawn
 // to be right or wrong.
-use crate::lists;
 use cases::chance::draw;
+use made_registers::lists;
 use changes::Changed;
 use districts::Assigned;
 use districts::Refusal;

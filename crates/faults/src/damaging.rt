@@ -1,8 +1,8 @@
 // One thing wrong in a good register of two districts or more. Each kind leaves all else as sound as it can be, so that only the test
 // of that one thing can tell; which run, which place and how much are drawn.
 use crate::Damage;
-use crate::lists;
 use cases::chance::draw;
+use made_registers::lists;
 use lists::below;
 use lists::less;
 use lists::sum;

@@ -1,9 +1,6 @@
 // x
 mod asking;
 mod damaging;
-mod lists;
-mod littering;
-mod making;
 mod refusing;
 
 pub use refusing::Refusals;

@@ -2,20 +2,13 @@
 use crate::Damage;
 use crate::asking;
 use crate::damaging;
-use crate::lists;
-use crate::making;
 use asking::Asked;
 use damaging::Lengths;
+use made_registers::lists;
 use lists::sum;
 ghost use mathlib.Core.Path.{_≡_};
 ghost use Prim.Native.Nat.{_≤_};
 ghost use lib.ListN.{length};
-ghost use Rattle.cases.specs.Room.{room};
-
-// A list has one number more than a register's, so that one that is too long can be handed over.
-const COORDINATES: usize = 4097;
-
-const RUNS: usize = 130;
 
 // What came of the damaged registers: the calls asked, those that refused as not well-formed, and the lists that a call changed.
 pub struct Refusals {
@@ -46,49 +39,17 @@ pub fn damaged(what: Damage, times: usize, seed: &mut usize) -> Refusals {
 
 fn one(what: Damage, seed: &mut usize, all: Refusals) -> Refusals {
     let mut space = [0i32; cases::ROOM];
-    let mut outline = [0i32; COORDINATES];
-    let mut store = [0i32; COORDINATES];
-    let mut runs = [0u32; RUNS];
-    let good = made(&mut outline, &mut store, &mut runs, &mut space, seed);
+    let mut outline = [0i32; made_registers::COORDINATES];
+    let mut store = [0i32; made_registers::COORDINATES];
+    let mut runs = [0u32; made_registers::RUNS];
+    let made = made_registers::make(&mut outline, &mut store, &mut runs, &mut space, seed);
     let lengths = damaging::done(what, &mut outline, &mut store, &mut runs, seed);
     let old_outline = outline;
     let old_store = store;
     let old_runs = runs;
     let asked = ask(&mut outline, &mut store, &mut runs, lengths, seed);
-    let same = same(&outline, &old_outline) & same(&store, &old_store) & same_runs(&runs, &old_runs);
-    all.with(good, asked, same)
-}
-
-fn made(
-    outline: &mut [i32],
-    store: &mut [i32],
-    runs: &mut [u32],
-    list: &mut [i32],
-    seed: &mut usize,
-) -> bool
-    requires { ⌜ (length (now outline) ≡ 4097) × (length (now store) ≡ 4097) × (length (now runs) ≡ 130) ⌝ }
-    requires { ⌜ length (now list) ≡ room ⌝ }
-{
-    register_in(
-        &mut outline[0..lists::COORDINATES],
-        &mut store[0..lists::COORDINATES],
-        &mut runs[0..lists::RUNS],
-        list,
-        seed,
-    )
-}
-
-fn register_in(
-    outline: &mut [i32],
-    store: &mut [i32],
-    runs: &mut [u32],
-    list: &mut [i32],
-    seed: &mut usize,
-) -> bool
-    requires { ⌜ length (now list) ≡ room ⌝ }
-{
-    making::register(outline, store, runs, list, seed);
-    making::is_good(outline, store, runs)
+    let same = lists::same(&outline, &old_outline) & lists::same(&store, &old_store) & lists::same_runs(&runs, &old_runs);
+    all.with(made.good, asked, same)
 }
 
 fn ask(
@@ -105,28 +66,6 @@ fn ask(
     let b = lengths.store;
     let c = lengths.runs;
     asking::every_call(&mut outline[0..a], &mut store[0..b], &mut runs[0..c], seed)
-}
-
-fn same(a: &[i32], b: &[i32]) -> bool {
-    let mut i = 0;
-    while i < a.len() {
-        if a[i] != lists::coordinate(b, i) {
-            return false;
-        }
-        i += 1;
-    }
-    true
-}
-
-fn same_runs(a: &[u32], b: &[u32]) -> bool {
-    let mut i = 0;
-    while i < a.len() {
-        if lists::number(a, i) != lists::number(b, i) {
-            return false;
-        }
-        i += 1;
-    }
-    true
 }
 
 fn unless(b: bool) -> usize {

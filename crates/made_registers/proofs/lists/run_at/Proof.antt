@@ -1,8 +1,8 @@
 -- `lists::run_at` meets its contract. The invariant: no number beyond the last is asked. The measure is how many are left. Assumes nothing.
 use borrow.Author.Needs.{needs}
 use Prim.Native.Nat.{_-_, _≤_}
-use Rattle.faults.proofs.lists.run_at.Statement.{statement}
-use Rattle.faults.proofs.lists.run_at.Tie as tie
+use Rattle.made_registers.proofs.lists.run_at.Statement.{statement}
+use Rattle.made_registers.proofs.lists.run_at.Tie as tie
 
 abbrev Inv-loop : tie.InvT-loop
 Inv-loop runs place ends d₀ d = d ≤ 64

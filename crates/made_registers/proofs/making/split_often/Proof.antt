@@ -3,8 +3,8 @@ use borrow.Author.Needs.{needs}
 use Prim.Native.Nat.{_-_, _≤_}
 use mathlib.Core.Path.{_≡_}
 use lib.ListN.{length}
-use Rattle.faults.proofs.making.split_often.Statement.{statement}
-use Rattle.faults.proofs.making.split_often.Tie as tie
+use Rattle.made_registers.proofs.making.split_often.Statement.{statement}
+use Rattle.made_registers.proofs.making.split_often.Tie as tie
 
 abbrev Inv-loop : tie.InvT-loop
 Inv-loop outline store₀ runs₀ list times seed₀ k₀ store runs seed k = (k ≤ times) × (length store ≡ length store₀) × (length runs ≡ length runs₀)

@@ -176,3 +176,25 @@ pub fn first_run(runs: &[u32]) -> usize {
 pub fn last_run(runs: &[u32]) -> usize {
     run_at(runs, total(runs), true)
 }
+
+pub fn same(a: &[i32], b: &[i32]) -> bool {
+    let mut i = 0;
+    while i < a.len() {
+        if a[i] != coordinate(b, i) {
+            return false;
+        }
+        i += 1;
+    }
+    true
+}
+
+pub fn same_runs(a: &[u32], b: &[u32]) -> bool {
+    let mut i = 0;
+    while i < a.len() {
+        if number(a, i) != number(b, i) {
+            return false;
+        }
+        i += 1;
+    }
+    true
+}

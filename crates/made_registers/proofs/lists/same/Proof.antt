@@ -1,9 +1,9 @@
--- `refusing::same_runs` meets its contract. The invariant: no place beyond the list is asked. The measure is how many are left. Assumes nothing.
+-- `lists::same` meets its contract. The invariant: no place beyond the list is asked. The measure is how many are left. Assumes nothing.
 use borrow.Author.Needs.{needs}
 use Prim.Native.Nat.{_-_, _≤_}
 use lib.ListN.{length}
-use Rattle.faults.proofs.refusing.same_runs.Statement.{statement}
-use Rattle.faults.proofs.refusing.same_runs.Tie as tie
+use Rattle.made_registers.proofs.lists.same.Statement.{statement}
+use Rattle.made_registers.proofs.lists.same.Tie as tie
 
 abbrev Inv-loop : tie.InvT-loop
 Inv-loop a b i₀ i = i ≤ length a
@@ -14,11 +14,14 @@ abbrev μ-loop : tie.MeasureT-loop
 loop-holds : tie.Need-loop-holds Inv-loop μ-loop
 loop-holds c = search needs
 
-number-requires : tie.Need-number-requires Inv-loop μ-loop
-number-requires c κs = search needs
+mul-if1 : tie.Need-mul-if1 Inv-loop μ-loop
+mul-if1 c = search needs
 
-number-requires-2 : tie.Need-number-requires-2 Inv-loop μ-loop
-number-requires-2 c κs = search needs
+shared-slice-copy-out-if1 : tie.Need-shared-slice-copy-out-if1 Inv-loop μ-loop
+shared-slice-copy-out-if1 c = search needs
+
+coordinate-requires : tie.Need-coordinate-requires Inv-loop μ-loop
+coordinate-requires c κs = search needs
 
 returns : tie.Need-returns Inv-loop μ-loop
 returns c = search needs
@@ -35,15 +38,16 @@ loop-again c = search needs
 returns-2 : tie.Need-returns-2 Inv-loop μ-loop
 returns-2 c = search needs
 
-pub same-runs-spec : {M : Type 1} → statement M
-same-runs-spec =
+pub same-spec : {M : Type 1} → statement M
+same-spec =
     tie.close
     (tie.spec
     Inv-loop
     μ-loop
     loop-holds
-    number-requires
-    number-requires-2
+    mul-if1
+    shared-slice-copy-out-if1
+    coordinate-requires
     returns
     add-i
     loop-less

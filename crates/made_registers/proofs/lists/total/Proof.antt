@@ -1,8 +1,8 @@
 -- `lists::total` meets its contract. The invariant: no number beyond the last is asked. The measure is how many are left. Assumes nothing.
 use borrow.Author.Needs.{needs}
 use Prim.Native.Nat.{_-_, _≤_}
-use Rattle.faults.proofs.lists.total.Statement.{statement}
-use Rattle.faults.proofs.lists.total.Tie as tie
+use Rattle.made_registers.proofs.lists.total.Statement.{statement}
+use Rattle.made_registers.proofs.lists.total.Tie as tie
 
 abbrev Inv-loop : tie.InvT-loop
 Inv-loop runs all₀ d₀ all d = d ≤ 64

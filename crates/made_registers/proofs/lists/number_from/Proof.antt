@@ -1,8 +1,8 @@
 -- `lists::number_from` meets its contract. The invariant: each number is asked once at most. The measure is how many are left. Assumes nothing.
 use borrow.Author.Needs.{needs}
 use Prim.Native.Nat.{_-_, _≤_}
-use Rattle.faults.proofs.lists.number_from.Statement.{statement}
-use Rattle.faults.proofs.lists.number_from.Tie as tie
+use Rattle.made_registers.proofs.lists.number_from.Statement.{statement}
+use Rattle.made_registers.proofs.lists.number_from.Tie as tie
 
 abbrev Inv-loop : tie.InvT-loop
 Inv-loop runs start used k₀ k = k ≤ 64

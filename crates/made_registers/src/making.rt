@@ -1,5 +1,6 @@
 // Good registers to damage: founded with a made ring, split along paths, and their numbers exchanged, so that the runs stand in any
 // order of numbers and numbers between them are unused. Some fill the store to the last place, and some have the longest outline.
+use crate::Made;
 use crate::lists;
 use cases::Case;
 use cases::Kind;
@@ -16,27 +17,51 @@ ghost use Rattle.cases.specs.Room.{room};
 // The most numbers of a ring, so that there is room for every split that follows.
 const LONGEST_RING: usize = 3800;
 
-const MOST_SPLITS: usize = 6;
+// One more than the most splits before the last, than the most points of a short path, and than the last place of the list from
+// which a path is read.
+const SPLITS: usize = 6;
 
-// One more than the most points of a short path, and than the places of the list from which paths are read.
 const POINTS: usize = 4;
 
 const STARTS: usize = 8;
 
-// Makes a register of at least two districts in empty lists; the case's ring stays in the list, and its point is often inside.
-pub fn register(
+// Makes a register in the first places of empty lists. The ring is drawn in the list `space`.
+pub fn make(
+    outline: &mut [i32],
+    store: &mut [i32],
+    runs: &mut [u32],
+    space: &mut [i32],
+    seed: &mut usize,
+) -> Made
+    requires { ⌜ (length (now outline) ≡ 4097) × (length (now store) ≡ 4097) × (length (now runs) ≡ 130) ⌝ }
+    requires { ⌜ length (now space) ≡ room ⌝ }
+{
+    register(
+        &mut outline[0..lists::COORDINATES],
+        &mut store[0..lists::COORDINATES],
+        &mut runs[0..lists::RUNS],
+        space,
+        seed,
+    )
+}
+
+fn register(
     outline: &mut [i32],
     store: &mut [i32],
     runs: &mut [u32],
     list: &mut [i32],
     seed: &mut usize,
-) -> Case
+) -> Made
     requires { ⌜ length (now list) ≡ room ⌝ }
 {
     let case = founded(outline, store, runs, list, seed);
     divide(outline, store, runs, list, seed);
     renumber(runs, seed);
-    case
+    Made {
+        good: is_good(outline, store, runs),
+        x: case.x,
+        y: case.y,
+    }
 }
 
 fn kind(seed: &mut usize) -> Kind {
@@ -69,7 +94,7 @@ fn founded(
 fn divide(outline: &[i32], store: &mut [i32], runs: &mut [u32], list: &[i32], seed: &mut usize)
     requires { ⌜ length (now list) ≡ room ⌝ }
 {
-    let times = draw(seed, MOST_SPLITS);
+    let times = draw(seed, SPLITS);
     split_often(outline, store, runs, list, times, seed);
     let m = last_path(runs, seed);
     split_along(outline, store, runs, list, m, seed);
@@ -159,7 +184,6 @@ fn lengthen(runs: &mut [u32], seed: &mut usize) {
     }
 }
 
-// Whether a made register is well-formed and has two districts or more: a drill of damage needs both.
-pub fn is_good(outline: &[i32], store: &[i32], runs: &[u32]) -> bool {
+fn is_good(outline: &[i32], store: &[i32], runs: &[u32]) -> bool {
     districts::well_formed(outline, store, runs) & (lists::first_run(runs) != lists::last_run(runs))
 }
