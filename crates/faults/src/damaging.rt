@@ -6,51 +6,53 @@ use made_registers::lists;
 use lists::below;
 use lists::less;
 use lists::sum;
-ghost use Prim.Native.Nat.{_+_, _≤_};
 
 // What 32 bits hold, and the half of it.
 pub const WORD: usize = 4_294_967_296;
 
 const HALF_WORD: usize = 2_147_483_648;
 
-// How much of each list is handed to a call; a list has one number more than a register's.
+// How much of each list a call is handed; a list has one number more than a register's.
 pub struct Lengths {
     pub outline: usize,
     pub store: usize,
     pub runs: usize,
 }
 
-const RIGHT: Lengths = Lengths {
-    outline: lists::COORDINATES,
-    store: lists::COORDINATES,
-    runs: lists::RUNS,
-};
+pub fn handed(what: Damage, seed: &mut usize) -> Lengths {
+    let mut right = Lengths {
+        outline: lists::COORDINATES,
+        store: lists::COORDINATES,
+        runs: lists::RUNS,
+    };
+    match what {
+        Damage::OutlineLength => right.outline = wrong_length(lists::COORDINATES, seed),
+        Damage::StoreLength => right.store = wrong_length(lists::COORDINATES, seed),
+        Damage::RunsLength => right.runs = wrong_length(lists::RUNS, seed),
+        _ => {}
+    }
+    right
+}
 
-// Does the damage, and answers how much of the lists is to be handed over.
-pub fn done(
+// Damages what the lists hold; a wrong length is damage enough.
+pub fn damage(
     what: Damage,
     outline: &mut [i32],
     store: &mut [i32],
     runs: &mut [u32],
     seed: &mut usize,
-) -> Lengths
-    ensures { λ r. ⌜ (r .outline ≤ 4097) × (r .store ≤ 4097) × (r .runs ≤ 130) ⌝ }
-{
+) {
     match what {
-        Damage::OutlineLength => outline_length(seed),
-        Damage::StoreLength => store_length(seed),
-        Damage::RunsLength => runs_length(seed),
-        Damage::OutlineCoordinate => outline_coordinate(outline, runs, seed),
-        Damage::StoreCoordinate => store_coordinate(store, runs, seed),
-        _ => in_runs(what, runs, seed),
+        Damage::OutlineLength | Damage::StoreLength | Damage::RunsLength => {}
+        Damage::OutlineCoordinate => spoil(outline, lists::outline_size(runs), seed),
+        Damage::StoreCoordinate => spoil(store, lists::total(runs), seed),
+        _ => damage_runs(what, runs, seed),
     }
 }
 
-fn in_runs(what: Damage, runs: &mut [u32], seed: &mut usize) -> Lengths
-    ensures { λ r. ⌜ (r .outline ≤ 4097) × (r .store ≤ 4097) × (r .runs ≤ 130) ⌝ }
-{
+fn damage_runs(what: Damage, runs: &mut [u32], seed: &mut usize) {
     match what {
-        Damage::OutlineSize => outline_size(runs, seed),
+        Damage::OutlineSize => lists::put_outline_size(runs, wrong_size(seed)),
         Damage::DistrictSize => district_size(runs, seed),
         Damage::NoOutline => lists::put_outline_size(runs, 0),
         Damage::TooMany => too_many(runs, seed),
@@ -59,48 +61,14 @@ fn in_runs(what: Damage, runs: &mut [u32], seed: &mut usize) -> Lengths
         Damage::BeyondStore => beyond_store(runs, seed),
         _ => huge(runs, seed),
     }
-    RIGHT
 }
 
 // One short, one long, or nothing.
-fn wrong_length(right: usize, seed: &mut usize) -> usize
-    requires { ⌜ right ≤ 4096 ⌝ }
-    ensures { λ r. ⌜ r ≤ right + 1 ⌝ }
-{
+fn wrong_length(right: usize, seed: &mut usize) -> usize {
     match draw(seed, 3) {
         0 => less(right, 1),
-        1 => right + 1,
+        1 => sum(right, 1),
         _ => 0,
-    }
-}
-
-fn outline_length(seed: &mut usize) -> Lengths
-    ensures { λ r. ⌜ (r .outline ≤ 4097) × (r .store ≤ 4097) × (r .runs ≤ 130) ⌝ }
-{
-    Lengths {
-        outline: wrong_length(lists::COORDINATES, seed),
-        store: lists::COORDINATES,
-        runs: lists::RUNS,
-    }
-}
-
-fn store_length(seed: &mut usize) -> Lengths
-    ensures { λ r. ⌜ (r .outline ≤ 4097) × (r .store ≤ 4097) × (r .runs ≤ 130) ⌝ }
-{
-    Lengths {
-        outline: lists::COORDINATES,
-        store: wrong_length(lists::COORDINATES, seed),
-        runs: lists::RUNS,
-    }
-}
-
-fn runs_length(seed: &mut usize) -> Lengths
-    ensures { λ r. ⌜ (r .outline ≤ 4097) × (r .store ≤ 4097) × (r .runs ≤ 130) ⌝ }
-{
-    Lengths {
-        outline: lists::COORDINATES,
-        store: lists::COORDINATES,
-        runs: wrong_length(lists::RUNS, seed),
     }
 }
 
@@ -122,22 +90,10 @@ fn some_place(m: usize, seed: &mut usize) -> usize {
     }
 }
 
-fn outline_coordinate(outline: &mut [i32], runs: &[u32], seed: &mut usize) -> Lengths
-    ensures { λ r. ⌜ (r .outline ≤ 4097) × (r .store ≤ 4097) × (r .runs ≤ 130) ⌝ }
-{
-    let n = lists::outline_size(runs);
+// A coordinate of the first n vertices goes beyond the grid.
+fn spoil(list: &mut [i32], n: usize, seed: &mut usize) {
     let at = some_place(sum(n, n), seed);
-    lists::put_coordinate(outline, at, beyond_grid(seed));
-    RIGHT
-}
-
-fn store_coordinate(store: &mut [i32], runs: &[u32], seed: &mut usize) -> Lengths
-    ensures { λ r. ⌜ (r .outline ≤ 4097) × (r .store ≤ 4097) × (r .runs ≤ 130) ⌝ }
-{
-    let all = lists::total(runs);
-    let at = some_place(sum(all, all), seed);
-    lists::put_coordinate(store, at, beyond_grid(seed));
-    RIGHT
+    lists::put_coordinate(list, at, beyond_grid(seed));
 }
 
 // A number of vertices that no ring has.
@@ -147,10 +103,6 @@ fn wrong_size(seed: &mut usize) -> usize {
         1 => 2,
         _ => lists::MOST_VERTICES + 1,
     }
-}
-
-fn outline_size(runs: &mut [u32], seed: &mut usize) {
-    lists::put_outline_size(runs, wrong_size(seed));
 }
 
 // The last run, or a new one behind it: no gap and no overlap arises.

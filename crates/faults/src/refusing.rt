@@ -3,12 +3,9 @@ use crate::Damage;
 use crate::asking;
 use crate::damaging;
 use asking::Asked;
-use damaging::Lengths;
 use made_registers::lists;
+use lists::least;
 use lists::sum;
-ghost use mathlib.Core.Path.{_≡_};
-ghost use Prim.Native.Nat.{_≤_};
-ghost use lib.ListN.{length};
 
 // What came of the damaged registers: the calls asked, those that refused as not well-formed, and the lists that a call changed.
 pub struct Refusals {
@@ -43,28 +40,26 @@ fn one(what: Damage, seed: &mut usize, all: Refusals) -> Refusals {
     let mut store = [0i32; made_registers::COORDINATES];
     let mut runs = [0u32; made_registers::RUNS];
     let made = made_registers::make(&mut outline, &mut store, &mut runs, &mut space, seed);
-    let lengths = damaging::done(what, &mut outline, &mut store, &mut runs, seed);
+    damaging::damage(what, &mut outline, &mut store, &mut runs, seed);
     let old_outline = outline;
     let old_store = store;
     let old_runs = runs;
-    let asked = ask(&mut outline, &mut store, &mut runs, lengths, seed);
+    let asked = ask(what, &mut outline, &mut store, &mut runs, seed);
     let same = lists::same(&outline, &old_outline) & lists::same(&store, &old_store) & lists::same_runs(&runs, &old_runs);
     all.with(made.good, asked, same)
 }
 
 fn ask(
+    what: Damage,
     outline: &mut [i32],
     store: &mut [i32],
     runs: &mut [u32],
-    lengths: Lengths,
     seed: &mut usize,
-) -> Asked
-    requires { ⌜ (length (now outline) ≡ 4097) × (length (now store) ≡ 4097) × (length (now runs) ≡ 130) ⌝ }
-    requires { ⌜ (lengths .outline ≤ 4097) × (lengths .store ≤ 4097) × (lengths .runs ≤ 130) ⌝ }
-{
-    let a = lengths.outline;
-    let b = lengths.store;
-    let c = lengths.runs;
+) -> Asked {
+    let lengths = damaging::handed(what, seed);
+    let a = least(lengths.outline, outline.len());
+    let b = least(lengths.store, store.len());
+    let c = least(lengths.runs, runs.len());
     asking::every_call(&mut outline[0..a], &mut store[0..b], &mut runs[0..c], seed)
 }
 
