@@ -4,6 +4,7 @@ use crate::Sorted;
 use crate::littering;
 use crate::telling;
 use cases::chance::draw;
+use districts::Assigned;
 use made_registers::lists;
 use lists::below;
 use lists::sum;
@@ -11,15 +12,7 @@ use telling::Told;
 
 // So many registers with litter of one kind.
 pub fn littered(what: Litter, times: usize, seed: &mut usize) -> Sorted {
-    let mut all = Sorted {
-        asked: 0,
-        one: 0,
-        border: 0,
-        none: 0,
-        several: 0,
-        refused: 0,
-        differ: 0,
-    };
+    let mut all = Sorted::new();
     let mut k = 0;
     while k < times {
         all = one(what, seed, all);
@@ -42,6 +35,18 @@ fn one(what: Litter, seed: &mut usize, all: Sorted) -> Sorted {
     all.with(made.good, before, after)
 }
 
+// The answer to a report that is put to a made register.
+pub fn made_answer(seed: &mut usize) -> Assigned {
+    let mut space = [0i32; cases::ROOM];
+    let mut outline = [0i32; made_registers::COORDINATES];
+    let mut store = [0i32; made_registers::COORDINATES];
+    let mut runs = [0u32; made_registers::RUNS];
+    let made = made_registers::make(&mut outline, &mut store, &mut runs, &mut space, seed);
+    let x = drawn(made.x, &store, &runs, 0, seed);
+    let y = drawn(made.y, &store, &runs, 1, seed);
+    telling::answer(&outline, &store, &runs, x, y)
+}
+
 // The coordinate that is told, or one of a district's vertex.
 fn drawn(x: i32, store: &[i32], runs: &[u32], axis: usize, seed: &mut usize) -> i32 {
     if draw(seed, 2) == 0 {
@@ -56,6 +61,19 @@ fn count(b: bool) -> usize {
 }
 
 impl Sorted {
+    pub fn new() -> Sorted {
+        Sorted {
+            asked: 0,
+            one: 0,
+            border: 0,
+            none: 0,
+            several: 0,
+            refused: 0,
+            differ: 0,
+        }
+    }
+
+    // With one answer more, which has to be the same as before.
     pub fn with(self, good: bool, before: Told, after: Told) -> Sorted {
         let what = after.what;
         Sorted {

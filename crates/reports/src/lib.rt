@@ -5,6 +5,7 @@ mod littering;
 pub mod telling;
 
 pub use comparing::littered;
+pub use comparing::made_answer;
 
 // Where a register is littered.
 pub enum Litter {

@@ -16,7 +16,9 @@ pub const SEVERAL: usize = 3;
 
 pub const REFUSED: usize = 4;
 
-// Document 01's number of the refusal that the tally gives.
+// Document 01's numbers of two refusals.
+pub const BEYOND_GRID: usize = 5;
+
 pub const COUNT_FULL: usize = 14;
 
 // What the answer is, the district that it names, and how many districts there are of it or a refusal's number.
@@ -71,7 +73,7 @@ fn refusal_told(r: Refusal) -> Told {
         Refusal::NoOutline => 2,
         Refusal::OutlineThere => 3,
         Refusal::NoRing => 4,
-        Refusal::BeyondGrid => 5,
+        Refusal::BeyondGrid => BEYOND_GRID,
         Refusal::CountFull => COUNT_FULL,
     };
     Told {

@@ -10,6 +10,9 @@ Inv-loop what times seed₀ all₀ k₀ seed all k = k ≤ times
 abbrev μ-loop : tie.MeasureT-loop
 μ-loop what times seed₀ all₀ k₀ seed all k = times - k
 
+new-requires : tie.Need-new-requires Inv-loop μ-loop
+new-requires c κs = search needs
+
 loop-holds : tie.Need-loop-holds Inv-loop μ-loop
 loop-holds c = search needs
 
@@ -30,4 +33,14 @@ returns c = search needs
 
 pub littered-spec : {M : Type 1} → statement M
 littered-spec =
-    tie.close (tie.spec Inv-loop μ-loop loop-holds one-requires add-k loop-less loop-again returns)
+    tie.close
+    (tie.spec
+    Inv-loop
+    μ-loop
+    new-requires
+    loop-holds
+    one-requires
+    add-k
+    loop-less
+    loop-again
+    returns)

@@ -1,0 +1,8 @@
+// The tally where a caller keeps it: at the limit of each count, and over a run of reports. Each function is proved safe and ending.
+mod lending;
+mod limits;
+mod running;
+
+pub use limits::Limits;
+pub use limits::at_limit;
+pub use running::run;
