@@ -4,10 +4,5 @@ use tally::Outcome;
 use tally::Tally;
 
 pub fn counted(t: Tally, a: Assigned) -> Outcome {
-    let mut kept = t;
-    let answer = tally::count(&mut kept, a);
-    Outcome {
-        tally: kept,
-        answer,
-    }
+    tally::counted(t, a)
 }

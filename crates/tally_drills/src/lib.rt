@@ -5,4 +5,4 @@ mod running;
 
 pub use limits::Limits;
 pub use limits::at_limit;
-pub use running::run;
+pub use running::counted_run;

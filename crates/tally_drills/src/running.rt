@@ -14,7 +14,7 @@ struct Run {
     sorted: Sorted,
 }
 
-pub fn run(times: usize, seed: &mut usize) -> Sorted {
+pub fn counted_run(times: usize, seed: &mut usize) -> Sorted {
     let mut ones = [0u32; lists::NUMBERS];
     let mut r = Run {
         tally: Tally::new(),
