@@ -1,19 +1,26 @@
-// The drills of `faults`, a line for each kind of damage: what was asked, and how many answered otherwise than they must.
+// The drills of damaged registers, of litter in the free room, and of the tally, a line for each kind: what was asked, and how many
+// answered otherwise than they must.
 use crate::say;
 use crate::tally::Tally;
 use faults::Damage;
+use reports::Litter;
+use reports::Sorted;
 
 // A seed of its own, so that the drills are the same whatever is asked before them.
 const SEED: usize = 19_991_231;
 
 const REGISTERS: usize = 300;
 
+const REPORTS: usize = 3_000;
+
 pub fn all(start: Tally) -> Tally {
     let mut seed = SEED;
     let mut t = lengths(start, &mut seed);
     t = sizes(t, &mut seed);
     t = packing(t, &mut seed);
-    coordinates(t, &mut seed)
+    t = coordinates(t, &mut seed);
+    t = free_room(t, &mut seed);
+    tallies(t, &mut seed)
 }
 
 fn lengths(start: Tally, seed: &mut usize) -> Tally {
@@ -51,6 +58,43 @@ fn damaged(name: &[u8], what: Damage, t: Tally, seed: &mut usize) -> Tally {
     say::counted(b", differ ", r.differ);
     say::text(b"\n");
     with(t, r.asked, r.differ)
+}
+
+fn free_room(start: Tally, seed: &mut usize) -> Tally {
+    let mut t = littered(b"litter behind the outline", Litter::Outline, start, seed);
+    t = littered(b"litter behind the last run", Litter::Store, t, seed);
+    littered(b"first places of unused numbers", Litter::Places, t, seed)
+}
+
+fn littered(name: &[u8], what: Litter, t: Tally, seed: &mut usize) -> Tally {
+    let s = reports::littered(what, REGISTERS, seed);
+    sorted(name, s);
+    with(t, s.asked, s.differ)
+}
+
+fn sorted(name: &[u8], s: Sorted) {
+    say::text(name);
+    say::counted(b": asked ", s.asked);
+    say::counted(b", one ", s.one);
+    say::counted(b", border ", s.border);
+    say::counted(b", none ", s.none);
+    say::counted(b", several ", s.several);
+    say::counted(b", refused 5: ", s.refused);
+    say::counted(b", differ ", s.differ);
+    say::text(b"\n");
+}
+
+fn tallies(t: Tally, seed: &mut usize) -> Tally {
+    let s = tally_drills::counted_run(REPORTS, seed);
+    sorted(b"tally of a run of reports", s);
+    let l = tally_drills::at_limit();
+    say::counted(b"counts at their limit: asked ", l.asked);
+    say::counted(b", counted ", l.counted);
+    say::counted(b", refused 14: ", l.full);
+    say::counted(b", refused 5: ", l.passed);
+    say::counted(b", differ ", l.differ);
+    say::text(b"\n");
+    with(with(t, s.asked, s.differ), l.asked, l.differ)
 }
 
 fn with(t: Tally, asked: usize, differ: usize) -> Tally {
