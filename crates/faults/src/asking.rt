@@ -1,12 +1,12 @@
 // The calls that a damaged register is handed to. Each has to answer refusal 1 before any other, so what else it is handed is drawn
 // to be right or wrong.
 use cases::chance::draw;
-use made_registers::lists;
 use changes::Changed;
 use districts::Assigned;
 use districts::Refusal;
 use lists::below;
 use lists::sum;
+use made_registers::lists;
 use register::Founded;
 
 // How many calls were asked, and how many of them refused the lists as not well-formed.
@@ -91,7 +91,15 @@ fn refuses_splitting(
     let d = some_number(runs, seed);
     let n = lists::size(runs, d);
     let m = draw(seed, 5);
-    match changes::split(outline, store, runs, d, below(seed, n), below(seed, n), &points[0..m]) {
+    match changes::split(
+        outline,
+        store,
+        runs,
+        d,
+        below(seed, n),
+        below(seed, n),
+        &points[0..m],
+    ) {
         Changed::Done(_) => false,
         Changed::Refused(r) => not_well_formed_either(r),
     }

@@ -2,10 +2,10 @@
 // of that one thing can tell; which run, which place and how much are drawn.
 use crate::Damage;
 use cases::chance::draw;
-use made_registers::lists;
 use lists::below;
 use lists::less;
 use lists::sum;
+use made_registers::lists;
 
 // What 32 bits hold, and the half of it.
 pub const WORD: usize = 4_294_967_296;
@@ -110,7 +110,12 @@ fn district_size(runs: &mut [u32], seed: &mut usize) {
     if draw(seed, 2) == 0 {
         lists::put_size(runs, lists::last_run(runs), wrong_size(seed));
     } else {
-        take(runs, lists::some_unused(runs, seed), lists::total(runs), wrong_size(seed));
+        take(
+            runs,
+            lists::some_unused(runs, seed),
+            lists::total(runs),
+            wrong_size(seed),
+        );
     }
 }
 
@@ -131,7 +136,11 @@ fn raise(runs: &mut [u32], d: usize, by: usize) {
 // The last run has up to three vertices more than there is room for; the other runs leave it fewer than 2,049.
 fn too_many(runs: &mut [u32], seed: &mut usize) {
     let left = less(lists::MOST_VERTICES, lists::total(runs));
-    grow(runs, lists::last_run(runs), sum(left, sum(1, draw(seed, 3))));
+    grow(
+        runs,
+        lists::last_run(runs),
+        sum(left, sum(1, draw(seed, 3))),
+    );
 }
 
 fn overlap(runs: &mut [u32], seed: &mut usize) {
@@ -158,7 +167,11 @@ fn shared(runs: &mut [u32], seed: &mut usize) {
 fn gap(runs: &mut [u32], seed: &mut usize) {
     match draw(seed, 3) {
         0 => raise(runs, lists::last_run(runs), sum(1, draw(seed, 4))),
-        1 => raise(runs, lists::some_district(runs, seed), sum(1, draw(seed, 4))),
+        1 => raise(
+            runs,
+            lists::some_district(runs, seed),
+            sum(1, draw(seed, 4)),
+        ),
         _ => lists::put_size(runs, lists::first_run(runs), 0),
     }
 }
@@ -166,7 +179,10 @@ fn gap(runs: &mut [u32], seed: &mut usize) {
 // A run that ends behind the store's last place.
 fn beyond_store(runs: &mut [u32], seed: &mut usize) {
     let d = lists::some_district(runs, seed);
-    let place = sum(less(lists::MOST_VERTICES + 1, lists::size(runs, d)), draw(seed, lists::MOST_VERTICES));
+    let place = sum(
+        less(lists::MOST_VERTICES + 1, lists::size(runs, d)),
+        draw(seed, lists::MOST_VERTICES),
+    );
     lists::put_first_place(runs, d, place);
 }
 

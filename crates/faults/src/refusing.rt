@@ -3,9 +3,9 @@ use crate::Damage;
 use crate::asking;
 use crate::damaging;
 use asking::Asked;
-use made_registers::lists;
 use lists::least;
 use lists::sum;
+use made_registers::lists;
 
 // What came of the damaged registers: the calls asked, those that refused as not well-formed, and the lists that a call changed.
 pub struct Refusals {
@@ -45,7 +45,9 @@ fn one(what: Damage, seed: &mut usize, all: Refusals) -> Refusals {
     let old_store = store;
     let old_runs = runs;
     let asked = ask(what, &mut outline, &mut store, &mut runs, seed);
-    let same = lists::same(&outline, &old_outline) & lists::same(&store, &old_store) & lists::same_runs(&runs, &old_runs);
+    let same = lists::same(&outline, &old_outline)
+        & lists::same(&store, &old_store)
+        & lists::same_runs(&runs, &old_runs);
     all.with(made.good, asked, same)
 }
 

@@ -142,13 +142,7 @@ fn split_along(
     split(outline, store, runs, &list[from..to], seed);
 }
 
-fn split(
-    outline: &[i32],
-    store: &mut [i32],
-    runs: &mut [u32],
-    path: &[i32],
-    seed: &mut usize,
-) {
+fn split(outline: &[i32], store: &mut [i32], runs: &mut [u32], path: &[i32], seed: &mut usize) {
     let d = lists::some_district(runs, seed);
     let n = lists::size(runs, d);
     let i = below(seed, n);

@@ -24,28 +24,68 @@ pub fn all(start: Tally) -> Tally {
 }
 
 fn lengths(start: Tally, seed: &mut usize) -> Tally {
-    let mut t = damaged(b"outline list of a wrong length", Damage::OutlineLength, start, seed);
+    let mut t = damaged(
+        b"outline list of a wrong length",
+        Damage::OutlineLength,
+        start,
+        seed,
+    );
     t = damaged(b"store of a wrong length", Damage::StoreLength, t, seed);
-    damaged(b"list of runs of a wrong length", Damage::RunsLength, t, seed)
+    damaged(
+        b"list of runs of a wrong length",
+        Damage::RunsLength,
+        t,
+        seed,
+    )
 }
 
 fn sizes(start: Tally, seed: &mut usize) -> Tally {
-    let mut t = damaged(b"outline of 1, 2 or 2049 vertices", Damage::OutlineSize, start, seed);
-    t = damaged(b"district of 1, 2 or 2049 vertices", Damage::DistrictSize, t, seed);
+    let mut t = damaged(
+        b"outline of 1, 2 or 2049 vertices",
+        Damage::OutlineSize,
+        start,
+        seed,
+    );
+    t = damaged(
+        b"district of 1, 2 or 2049 vertices",
+        Damage::DistrictSize,
+        t,
+        seed,
+    );
     t = damaged(b"districts beside no outline", Damage::NoOutline, t, seed);
-    damaged(b"more than 2048 vertices of districts", Damage::TooMany, t, seed)
+    damaged(
+        b"more than 2048 vertices of districts",
+        Damage::TooMany,
+        t,
+        seed,
+    )
 }
 
 fn packing(start: Tally, seed: &mut usize) -> Tally {
     let mut t = damaged(b"runs that overlap", Damage::Overlap, start, seed);
     t = damaged(b"gap between or before runs", Damage::Gap, t, seed);
     t = damaged(b"run beyond the store", Damage::BeyondStore, t, seed);
-    damaged(b"first place or size near 2^32 or 2^31", Damage::Huge, t, seed)
+    damaged(
+        b"first place or size near 2^32 or 2^31",
+        Damage::Huge,
+        t,
+        seed,
+    )
 }
 
 fn coordinates(start: Tally, seed: &mut usize) -> Tally {
-    let t = damaged(b"outline beyond the grid", Damage::OutlineCoordinate, start, seed);
-    damaged(b"district beyond the grid", Damage::StoreCoordinate, t, seed)
+    let t = damaged(
+        b"outline beyond the grid",
+        Damage::OutlineCoordinate,
+        start,
+        seed,
+    );
+    damaged(
+        b"district beyond the grid",
+        Damage::StoreCoordinate,
+        t,
+        seed,
+    )
 }
 
 fn damaged(name: &[u8], what: Damage, t: Tally, seed: &mut usize) -> Tally {
@@ -79,7 +119,7 @@ fn sorted(name: &[u8], s: Sorted) {
     say::counted(b", border ", s.border);
     say::counted(b", none ", s.none);
     say::counted(b", several ", s.several);
-    say::counted(b", refused 5: ", s.refused);
+    say::counted(b", refused ", s.refused);
     say::counted(b", differ ", s.differ);
     say::text(b"\n");
 }

@@ -5,9 +5,9 @@ use crate::littering;
 use crate::telling;
 use cases::chance::draw;
 use districts::Assigned;
-use made_registers::lists;
 use lists::below;
 use lists::sum;
+use made_registers::lists;
 use telling::Told;
 
 // So many registers with litter of one kind.
@@ -47,12 +47,16 @@ pub fn made_answer(seed: &mut usize) -> Assigned {
     telling::answer(&outline, &store, &runs, x, y)
 }
 
-// The coordinate that is told, or one of a district's vertex.
+// The coordinate that is told, one of a district's vertex, or now and then one beyond the grid.
 fn drawn(x: i32, store: &[i32], runs: &[u32], axis: usize, seed: &mut usize) -> i32 {
-    if draw(seed, 2) == 0 {
-        return x;
+    match draw(seed, 16) {
+        0 => 1_000_000_001,
+        1..=8 => x,
+        _ => vertex(store, below(seed, lists::total(runs)), axis),
     }
-    let v = below(seed, lists::total(runs));
+}
+
+fn vertex(store: &[i32], v: usize, axis: usize) -> i32 {
     lists::coordinate(store, sum(sum(v, v), axis))
 }
 

@@ -1,10 +1,10 @@
 // What damages nothing: it writes only to the free room of the lists and to the first places of unused numbers, which have no meaning.
 use crate::Litter;
 use cases::chance::draw;
-use made_registers::lists;
 use lists::below;
 use lists::less;
 use lists::sum;
+use made_registers::lists;
 
 pub fn litter(
     what: Litter,

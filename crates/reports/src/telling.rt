@@ -3,8 +3,8 @@ use districts::Assigned;
 use districts::Class;
 use districts::Refusal;
 use districts::Report;
-use made_registers::lists;
 use lists::least;
+use made_registers::lists;
 
 pub const ONE: usize = 0;
 

@@ -2,8 +2,8 @@
 // raised to the limit, and a refused report passes and is not counted.
 use crate::lending;
 use districts::Assigned;
-use made_registers::lists;
 use lists::sum;
+use made_registers::lists;
 use reports::telling;
 use tally::Tally;
 use telling::Told;
@@ -127,7 +127,12 @@ impl Limits {
     fn limit(self, a: Assigned, told: Told) -> Limits {
         let full = holding(told, MOST);
         let raised = gives(holding(told, MOST - 1), a, told, full);
-        let left = gives(full, a, named(telling::REFUSED, 0, telling::COUNT_FULL), full);
+        let left = gives(
+            full,
+            a,
+            named(telling::REFUSED, 0, telling::COUNT_FULL),
+            full,
+        );
         Limits {
             asked: sum(self.asked, 2),
             counted: sum(self.counted, 1),
@@ -140,7 +145,12 @@ impl Limits {
     // A report beyond the grid, with the count of number d at its limit.
     fn pass(self, a: Assigned, d: usize) -> Limits {
         let full = holding(named(telling::ONE, d, 1), MOST);
-        let passed = gives(full, a, named(telling::REFUSED, 0, telling::BEYOND_GRID), full);
+        let passed = gives(
+            full,
+            a,
+            named(telling::REFUSED, 0, telling::BEYOND_GRID),
+            full,
+        );
         Limits {
             asked: sum(self.asked, 1),
             counted: self.counted,

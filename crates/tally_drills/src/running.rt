@@ -1,8 +1,8 @@
 // A fresh tally over a run of made reports, with every class and every number counted beside it.
 use crate::lending;
 use districts::Assigned;
-use made_registers::lists;
 use lists::sum;
+use made_registers::lists;
 use reports::Sorted;
 use reports::telling;
 use tally::Tally;
@@ -45,7 +45,10 @@ fn other_ones(t: Tally, ones: &[u32]) -> usize {
     let mut others = 0;
     let mut d = 0;
     while d < lists::NUMBERS {
-        others = sum(others, unless(lists::number(&counts, d) == lists::number(ones, d)));
+        others = sum(
+            others,
+            unless(lists::number(&counts, d) == lists::number(ones, d)),
+        );
         d += 1;
     }
     others
@@ -75,7 +78,10 @@ impl Run {
         let t = self.tally;
         let mut s = self.sorted;
         let all_ones = tally::sum_of_ones(t) as usize;
-        let all = sum(sum(all_ones, wide(t.border)), sum(wide(t.none), wide(t.several)));
+        let all = sum(
+            sum(all_ones, wide(t.border)),
+            sum(wide(t.none), wide(t.several)),
+        );
         let mut wrong = other_ones(t, ones);
         wrong = sum(wrong, unless(all_ones == s.one));
         wrong = sum(wrong, unless(wide(t.border) == s.border));
