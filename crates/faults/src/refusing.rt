@@ -1,8 +1,7 @@
 // Damaged registers of one kind, each handed to every call: all must refuse it, and the lists must hold what they held.
-use crate::Damage;
 use crate::asking;
-use crate::damaging;
 use asking::Asked;
+use harm::Damage;
 use lists::least;
 use lists::sum;
 use made_registers::lists;
@@ -40,7 +39,7 @@ fn one(what: Damage, seed: &mut usize, all: Refusals) -> Refusals {
     let mut store = [0i32; made_registers::COORDINATES];
     let mut runs = [0u32; made_registers::RUNS];
     let made = made_registers::make(&mut outline, &mut store, &mut runs, &mut space, seed);
-    damaging::damage(what, &mut outline, &mut store, &mut runs, seed);
+    harm::done(what, &mut outline, &mut store, &mut runs, seed);
     let old_outline = outline;
     let old_store = store;
     let old_runs = runs;
@@ -58,7 +57,7 @@ fn ask(
     runs: &mut [u32],
     seed: &mut usize,
 ) -> Asked {
-    let lengths = damaging::handed(what, seed);
+    let lengths = harm::handed(what, seed);
     let a = least(lengths.outline, outline.len());
     let b = least(lengths.store, store.len());
     let c = least(lengths.runs, runs.len());

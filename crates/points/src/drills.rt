@@ -2,7 +2,7 @@
 // answered otherwise than they must.
 use crate::say;
 use crate::tally::Tally;
-use faults::Damage;
+use harm::Damage;
 use reports::Litter;
 use reports::Sorted;
 

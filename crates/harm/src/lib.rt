@@ -1,14 +1,39 @@
 // One thing wrong in a good register of two districts or more. Each kind leaves all else as sound as it can be, so that only the test
-// of that one thing can tell; which run, which place and how much are drawn.
-use crate::Damage;
+// of that one thing can tell; which run, which place and how much are drawn. Each function is proved safe and ending.
 use cases::chance::draw;
 use lists::below;
 use lists::less;
 use lists::sum;
 use made_registers::lists;
 
+// What is wrong with a register.
+pub enum Damage {
+    // A list that is one number short, one long, or empty.
+    OutlineLength,
+    StoreLength,
+    RunsLength,
+    // A ring of 1, 2 or 2,049 vertices.
+    OutlineSize,
+    DistrictSize,
+    // Districts beside no outline.
+    NoOutline,
+    // More than 2,048 vertices of districts in all.
+    TooMany,
+    // Two runs with a place in common.
+    Overlap,
+    // A place that no run has, before the end of another.
+    Gap,
+    // A run that ends behind the store.
+    BeyondStore,
+    // A first place or a size near 2^32, or beyond what the half of it can hold.
+    Huge,
+    // A coordinate beyond the grid.
+    OutlineCoordinate,
+    StoreCoordinate,
+}
+
 // What 32 bits hold, and the half of it.
-pub const WORD: usize = 4_294_967_296;
+const WORD: usize = 4_294_967_296;
 
 const HALF_WORD: usize = 2_147_483_648;
 
@@ -35,7 +60,7 @@ pub fn handed(what: Damage, seed: &mut usize) -> Lengths {
 }
 
 // Damages what the lists hold; a wrong length is damage enough.
-pub fn damage(
+pub fn done(
     what: Damage,
     outline: &mut [i32],
     store: &mut [i32],
@@ -72,7 +97,7 @@ fn wrong_length(right: usize, seed: &mut usize) -> usize {
     }
 }
 
-pub fn beyond_grid(seed: &mut usize) -> i32 {
+fn beyond_grid(seed: &mut usize) -> i32 {
     match draw(seed, 4) {
         0 => 1_000_000_001,
         1 => -1_000_000_001,
