@@ -1,5 +1,5 @@
-// The tally where a caller keeps it: at the limit of each count, and over a run of reports. Each function is proved safe and ending.
-mod lending;
+// The tally at the limit of each count, and over a run of reports. Each function is proved safe and ending.
+mod counting;
 mod limits;
 mod running;
 

@@ -1,6 +1,6 @@
 // Tallies at the limit of a count, for each class and each number: the count at its limit is refused 14 and left, one below it is
 // raised to the limit, and a refused report passes and is not counted.
-use crate::lending;
+use crate::counting;
 use districts::Assigned;
 use lists::sum;
 use made_registers::lists;
@@ -112,7 +112,7 @@ fn same(a: Tally, b: Tally) -> bool {
 
 // Whether an answer, counted in a tally, is given as told and leaves the tally that is expected.
 fn gives(t: Tally, a: Assigned, told: Told, after: Tally) -> bool {
-    let o = lending::counted(t, a);
+    let o = counting::counted(t, a);
     let answer = o.answer;
     let tally = o.tally;
     telling::in_numbers(answer).same(told) & same(tally, after)

@@ -1,5 +1,5 @@
 // A fresh tally over a run of made reports, with every class and every number counted beside it.
-use crate::lending;
+use crate::counting;
 use districts::Assigned;
 use lists::sum;
 use made_registers::lists;
@@ -63,7 +63,7 @@ impl Run {
         let before = self.tally;
         let told = telling::in_numbers(a);
         count_one(ones, told);
-        let o = lending::counted(before, a);
+        let o = counting::counted(before, a);
         let answer = o.answer;
         let tally = o.tally;
         let sorted = self.sorted;
