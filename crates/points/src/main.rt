@@ -2,6 +2,7 @@
 // where they differ: first document 01's known points, a line each, then made rings, a line for each kind.
 // The rings come from a fixed seed, so that every run prints the same. Proved safe and ending; what it prints is compared.
 mod answer;
+mod drills;
 mod known;
 mod say;
 mod tally;
@@ -35,6 +36,7 @@ fn main() {
         &mut seed,
         all,
     );
+    all = drills::all(all);
     all.print_sum();
 }
 
