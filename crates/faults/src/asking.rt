@@ -1,9 +1,9 @@
 // The calls that a damaged register is handed to. Each has to answer refusal 1 before any other, so what else it is handed is drawn
 // to be right or wrong.
 use cases::chance::draw;
-use changes::Changed;
 use districts::Assigned;
 use districts::Refusal;
+use judging::Changed;
 use lists::below;
 use lists::sum;
 use made_registers::lists;
@@ -24,7 +24,7 @@ impl Asked {
     }
 }
 
-// Every call of the register, a line for each.
+// Every call of the register, a line for each; the changes apart, since a function of all calls leaves more than a search can close.
 pub fn every_call(
     outline: &mut [i32],
     store: &mut [i32],
@@ -38,8 +38,18 @@ pub fn every_call(
     asked = asked.with(!districts::well_formed(outline, store, runs));
     asked = asked.with(refuses_founding(outline, store, runs, seed));
     asked = asked.with(refuses_assigning(outline, store, runs, seed));
-    asked = asked.with(refuses_splitting(outline, store, runs, seed));
-    asked
+    every_change(asked, outline, store, runs, seed)
+}
+
+fn every_change(
+    before: Asked,
+    outline: &[i32],
+    store: &mut [i32],
+    runs: &mut [u32],
+    seed: &mut usize,
+) -> Asked {
+    let asked = before.with(refuses_splitting(outline, store, runs, seed));
+    asked.with(refuses_merging(outline, store, runs, seed))
 }
 
 fn not_well_formed(r: Refusal) -> bool {
@@ -91,7 +101,7 @@ fn refuses_splitting(
     let d = some_number(runs, seed);
     let n = lists::size(runs, d);
     let m = draw(seed, 5);
-    match changes::split(
+    refuses(changes::split(
         outline,
         store,
         runs,
@@ -99,10 +109,17 @@ fn refuses_splitting(
         below(seed, n),
         below(seed, n),
         &points[0..m],
-    ) {
-        Changed::Done(_) => false,
-        Changed::Refused(r) => not_well_formed_either(r),
-    }
+    ))
+}
+
+// Two districts or any numbers, a vertex of each, and up to three edges.
+fn refuses_merging(outline: &[i32], store: &mut [i32], runs: &mut [u32], seed: &mut usize) -> bool {
+    let kept = some_number(runs, seed);
+    let gone = some_number(runs, seed);
+    let a = below(seed, lists::size(runs, kept));
+    let b = below(seed, lists::size(runs, gone));
+    let k = draw(seed, 4);
+    refuses(changes::merge(outline, store, runs, kept, a, gone, b, k))
 }
 
 fn some_number(runs: &[u32], seed: &mut usize) -> usize {
@@ -112,9 +129,16 @@ fn some_number(runs: &[u32], seed: &mut usize) -> usize {
     lists::some_district(runs, seed)
 }
 
-fn not_well_formed_either(r: changes::Refusal) -> bool {
+fn refuses(r: Changed) -> bool {
     match r {
-        changes::Refusal::NotWellFormed => true,
+        Changed::Done(_) => false,
+        Changed::Refused(q) => not_well_formed_either(q),
+    }
+}
+
+fn not_well_formed_either(r: judging::Refusal) -> bool {
+    match r {
+        judging::Refusal::NotWellFormed => true,
         _ => false,
     }
 }
