@@ -7,6 +7,7 @@ mod row;
 mod splitting;
 
 pub use merging::merge;
+pub use merging::same;
 pub use reporting::located;
 pub use reporting::report;
 pub use row::around;

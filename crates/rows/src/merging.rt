@@ -8,7 +8,7 @@ ghost use lib.ListN.{length};
 ghost use Rattle.rows.specs.Shape.{allRows, manyRows, mostVertices};
 
 // Whether vertex i of row d is vertex j of row e.
-fn same(rows: &[i32], d: usize, i: usize, e: usize, j: usize) -> bool
+pub fn same(rows: &[i32], d: usize, i: usize, e: usize, j: usize) -> bool
     requires { ⌜ length (now rows) ≡ allRows ⌝ }
     requires { ⌜ (i < mostVertices) × (j < mostVertices) ⌝ }
 {

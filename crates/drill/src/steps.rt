@@ -1,0 +1,340 @@
+// The steps of a drill: a call to both registers, and what is compared after it.
+use crate::answer;
+use crate::answer::Both;
+use crate::asking;
+use crate::choosing;
+use crate::compare;
+use crate::counts::Call;
+use crate::counts::Counts;
+use crate::matching;
+use crate::sums;
+use cases::Kind;
+use cases::chance::draw;
+ghost use mathlib.Core.Path.{_≡_};
+ghost use Prim.Native.Nat.{_≤_};
+ghost use lib.ListN.{length};
+ghost use Rattle.cases.specs.Room.{room};
+ghost use Rattle.rows.specs.Shape.{allRows, manyRows};
+
+// The most points of a path that is taken back at once.
+const TAKEN_BACK: usize = 4;
+
+// How a register is edited: with paths of this kind, short or long, and so many splits in ten changes.
+pub struct Plan {
+    pub what: Kind,
+    pub long: bool,
+    pub splits: usize,
+}
+
+fn sorted(both: Both) -> bool {
+    let p = both.packed;
+    let r = both.rows;
+    ((answer::ONE <= p.what) & (p.what <= answer::SEVERAL))
+        & ((answer::ONE <= r.what) & (r.what <= answer::SEVERAL))
+}
+
+// Asks where (x, y) belongs, and adds up the winding numbers there if it is on no border.
+pub fn report(
+    outline: &[i32],
+    store: &[i32],
+    runs: &[u32],
+    rows: &[i32],
+    sizes: &[usize],
+    x: i32,
+    y: i32,
+    seed: &mut usize,
+    counts: Counts,
+) -> Counts
+    requires { ⌜ length (now rows) ≡ allRows ⌝ }
+    requires { ⌜ length (now sizes) ≡ manyRows ⌝ }
+{
+    let number = draw(seed, 4_294_967_296) as u32;
+    let both = asking::report(outline, store, runs, rows, sizes, number, x, y);
+    let c = counts.with(Call::Report, both);
+    if sorted(both) {
+        return c.with_sum(sums::compared(rows, sizes, x, y));
+    }
+    c
+}
+
+// Whether both registers hold the same, and the store is full.
+pub fn compared(
+    outline: &[i32],
+    store: &[i32],
+    runs: &[u32],
+    rows: &[i32],
+    sizes: &[usize],
+    counts: Counts,
+) -> Counts
+    requires { ⌜ length (now runs) ≡ 129 ⌝ }
+    requires { ⌜ length (now rows) ≡ allRows ⌝ }
+    requires { ⌜ length (now sizes) ≡ manyRows ⌝ }
+{
+    let same = compare::agree(outline, store, runs, rows, sizes);
+    counts
+        .expected(same)
+        .filled(rows::total(sizes) == rows::MOST_VERTICES)
+}
+
+fn path_length(sizes: &[usize], m: usize, long: bool, seed: &mut usize) -> usize
+    requires { ⌜ length (now sizes) ≡ manyRows ⌝ }
+    requires { ⌜ m ≤ room ⌝ }
+    ensures { λ r. ⌜ r ≤ room ⌝ }
+{
+    if long {
+        let used = choosing::least(rows::total(sizes), rows::MOST_VERTICES);
+        return choosing::long_path(rows::MOST_VERTICES - used, seed);
+    }
+    choosing::short_path(m, seed)
+}
+
+// Splits along a path of the first numbers of a list of m.
+fn split(
+    outline: &[i32],
+    store: &mut [i32],
+    runs: &mut [u32],
+    rows: &mut [i32],
+    sizes: &mut [usize],
+    list: &[i32],
+    m: usize,
+    long: bool,
+    seed: &mut usize,
+    counts: Counts,
+) -> Counts
+    requires { ⌜ length (now rows) ≡ allRows ⌝ }
+    requires { ⌜ length (now sizes) ≡ manyRows ⌝ }
+    requires { ⌜ length (now list) ≡ room ⌝ }
+    requires { ⌜ m ≤ room ⌝ }
+{
+    let d = choosing::district(sizes, seed);
+    let n = rows::size(sizes, d);
+    let i = choosing::index(n, seed);
+    let j = choosing::index(n, seed);
+    let to = path_length(sizes, m, long, seed);
+    let path = &list[0..to];
+    counts.with(
+        Call::Split,
+        asking::split(outline, store, runs, rows, sizes, d, i, j, path),
+    )
+}
+
+fn merge(
+    outline: &[i32],
+    store: &mut [i32],
+    runs: &mut [u32],
+    rows: &mut [i32],
+    sizes: &mut [usize],
+    seed: &mut usize,
+    counts: Counts,
+) -> Counts
+    requires { ⌜ length (now rows) ≡ allRows ⌝ }
+    requires { ⌜ length (now sizes) ≡ manyRows ⌝ }
+{
+    let r = matching::chosen(rows, sizes, seed);
+    counts.with(
+        Call::Merge,
+        asking::merge(
+            outline,
+            store,
+            runs,
+            rows,
+            sizes,
+            r.kept,
+            r.a,
+            r.gone,
+            r.b,
+            r.k,
+        ),
+    )
+}
+
+// Merges the pieces of a split of district d along its path of k points, which must be accepted.
+fn take_back(
+    outline: &[i32],
+    store: &mut [i32],
+    runs: &mut [u32],
+    rows: &mut [i32],
+    sizes: &mut [usize],
+    d: usize,
+    k: usize,
+    e: usize,
+    counts: Counts,
+) -> Counts
+    requires { ⌜ length (now rows) ≡ allRows ⌝ }
+    requires { ⌜ length (now sizes) ≡ manyRows ⌝ }
+    requires { ⌜ k ≤ 4 ⌝ }
+{
+    let n = rows::size(sizes, d);
+    if n <= k {
+        return counts.expected(false);
+    }
+    let both = asking::merge(outline, store, runs, rows, sizes, d, n - k - 1, e, 0, k + 1);
+    let done = both.rows.what == answer::DONE;
+    counts.with(Call::Merge, both).expected(done)
+}
+
+fn there_and_back(
+    outline: &[i32],
+    store: &mut [i32],
+    runs: &mut [u32],
+    rows: &mut [i32],
+    sizes: &mut [usize],
+    d: usize,
+    i: usize,
+    j: usize,
+    path: &[i32],
+    counts: Counts,
+) -> Counts
+    requires { ⌜ length (now rows) ≡ allRows ⌝ }
+    requires { ⌜ length (now sizes) ≡ manyRows ⌝ }
+    requires { ⌜ length (now path) ≤ 8 ⌝ }
+{
+    let both = asking::split(outline, store, runs, rows, sizes, d, i, j, path);
+    let c = counts.with(Call::Split, both);
+    let told = both.rows;
+    if told.what != answer::DONE {
+        return c;
+    }
+    let k = path.len() / 2;
+    take_back(outline, store, runs, rows, sizes, d, k, told.number, c)
+}
+
+fn split_and_back(
+    outline: &[i32],
+    store: &mut [i32],
+    runs: &mut [u32],
+    rows: &mut [i32],
+    sizes: &mut [usize],
+    list: &[i32],
+    seed: &mut usize,
+    counts: Counts,
+) -> Counts
+    requires { ⌜ length (now rows) ≡ allRows ⌝ }
+    requires { ⌜ length (now sizes) ≡ manyRows ⌝ }
+    requires { ⌜ length (now list) ≡ room ⌝ }
+{
+    let d = choosing::used(sizes, seed);
+    let n = rows::size(sizes, d);
+    let i = choosing::index(n, seed);
+    let j = choosing::index(n, seed);
+    let to = 2 * draw(seed, TAKEN_BACK);
+    let path = &list[0..to];
+    there_and_back(outline, store, runs, rows, sizes, d, i, j, path, counts)
+}
+
+fn change(
+    outline: &[i32],
+    store: &mut [i32],
+    runs: &mut [u32],
+    rows: &mut [i32],
+    sizes: &mut [usize],
+    list: &[i32],
+    m: usize,
+    plan: Plan,
+    seed: &mut usize,
+    counts: Counts,
+) -> Counts
+    requires { ⌜ length (now rows) ≡ allRows ⌝ }
+    requires { ⌜ length (now sizes) ≡ manyRows ⌝ }
+    requires { ⌜ length (now list) ≡ room ⌝ }
+    requires { ⌜ m ≤ room ⌝ }
+{
+    let dice = draw(seed, 10);
+    if dice < plan.splits {
+        return split(
+            outline,
+            store,
+            runs,
+            rows,
+            sizes,
+            list,
+            m,
+            plan.long,
+            seed,
+            counts,
+        );
+    }
+    if dice < 9 {
+        return merge(outline, store, runs, rows, sizes, seed, counts);
+    }
+    split_and_back(outline, store, runs, rows, sizes, list, seed, counts)
+}
+
+// After a change: a comparison of all that both hold, and a report.
+pub fn inspected(
+    outline: &[i32],
+    store: &[i32],
+    runs: &[u32],
+    rows: &[i32],
+    sizes: &[usize],
+    x: i32,
+    y: i32,
+    seed: &mut usize,
+    counts: Counts,
+) -> Counts
+    requires { ⌜ length (now runs) ≡ 129 ⌝ }
+    requires { ⌜ length (now rows) ≡ allRows ⌝ }
+    requires { ⌜ length (now sizes) ≡ manyRows ⌝ }
+{
+    let c = compared(outline, store, runs, rows, sizes, counts);
+    report(outline, store, runs, rows, sizes, x, y, seed, c)
+}
+
+fn step(
+    outline: &[i32],
+    store: &mut [i32],
+    runs: &mut [u32],
+    rows: &mut [i32],
+    sizes: &mut [usize],
+    space: &mut [i32],
+    plan: Plan,
+    seed: &mut usize,
+    counts: Counts,
+) -> Counts
+    requires { ⌜ length (now runs) ≡ 129 ⌝ }
+    requires { ⌜ length (now rows) ≡ allRows ⌝ }
+    requires { ⌜ length (now sizes) ≡ manyRows ⌝ }
+    requires { ⌜ length (now space) ≡ room ⌝ }
+{
+    let what = plan.what;
+    let case = cases::make(choosing::kind(what, seed), space, seed);
+    let c = change(
+        outline,
+        store,
+        runs,
+        rows,
+        sizes,
+        space,
+        case.m,
+        plan,
+        seed,
+        counts,
+    );
+    inspected(outline, store, runs, rows, sizes, case.x, case.y, seed, c)
+}
+
+pub fn many(
+    outline: &[i32],
+    store: &mut [i32],
+    runs: &mut [u32],
+    rows: &mut [i32],
+    sizes: &mut [usize],
+    space: &mut [i32],
+    plan: Plan,
+    times: usize,
+    seed: &mut usize,
+    start: Counts,
+) -> Counts
+    requires { ⌜ length (now runs) ≡ 129 ⌝ }
+    requires { ⌜ length (now rows) ≡ allRows ⌝ }
+    requires { ⌜ length (now sizes) ≡ manyRows ⌝ }
+    requires { ⌜ length (now space) ≡ room ⌝ }
+{
+    let mut c = start;
+    let mut t = 0;
+    while t < times {
+        c = step(outline, store, runs, rows, sizes, space, plan, seed, c);
+        t += 1;
+    }
+    c
+}
