@@ -30,6 +30,16 @@ pub fn least(a: usize, b: usize) -> usize
     b
 }
 
+// Whether to found: half the time while there is no outline, and seldom later.
+pub fn founding(sizes: &[usize], seed: &mut usize) -> bool
+    requires { ⌜ length (now sizes) ≡ manyRows ⌝ }
+{
+    if rows::size(sizes, rows::OUTLINE) == 0 {
+        return draw(seed, 2) == 0;
+    }
+    seldom(seed)
+}
+
 pub fn kind(what: Kind, seed: &mut usize) -> Kind {
     if seldom(seed) {
         return Kind::Broken;

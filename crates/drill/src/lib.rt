@@ -1,11 +1,9 @@
-// Drills: made registers are driven through the packed implementation and the one by rows with the same calls, and their answers and
-// what they hold are compared after every call. Proved safe and ending; nothing is printed here.
-pub mod answer;
-pub mod asking;
+// Drills: made registers are driven through both implementations with the same calls, and what they answer and hold is compared after
+// every call. Proved safe and ending; what comes of it is in the counts, and nothing is printed here.
 mod choosing;
-mod compare;
-pub mod counts;
-pub mod lives;
+mod lives;
 mod matching;
 mod steps;
-mod sums;
+
+pub use lives::all;
+pub use steps::Life;

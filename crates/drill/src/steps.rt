@@ -1,15 +1,15 @@
 // The steps of a drill: a call to both registers, and what is compared after it.
-use crate::answer;
-use crate::answer::Both;
-use crate::asking;
 use crate::choosing;
-use crate::compare;
-use crate::counts::Call;
-use crate::counts::Counts;
 use crate::matching;
-use crate::sums;
 use cases::Kind;
 use cases::chance::draw;
+use pair::answer;
+use pair::answer::Both;
+use pair::asking;
+use pair::compare;
+use pair::counts::Call;
+use pair::counts::Counts;
+use pair::sums;
 ghost use mathlib.Core.Path.{_≡_};
 ghost use Prim.Native.Nat.{_≤_};
 ghost use lib.ListN.{length};
@@ -19,11 +19,19 @@ ghost use Rattle.rows.specs.Shape.{allRows, manyRows};
 // The most points of a path that is taken back at once.
 const TAKEN_BACK: usize = 4;
 
-// How a register is edited: with paths of this kind, short or long, and so many splits in ten changes.
-pub struct Plan {
+// How many of ten changes are splits where districts are to become more, and fewer; the last of ten is a split that is taken back.
+const MORE: usize = 8;
+
+const FEWER: usize = 2;
+
+const LAST: usize = 9;
+
+// What registers are made of, and paths, short or long; whether they are edited or only asked about; and how many steps each lives.
+pub struct Life {
     pub what: Kind,
     pub long: bool,
-    pub splits: usize,
+    pub edited: bool,
+    pub times: usize,
 }
 
 fn sorted(both: Both) -> bool {
@@ -222,7 +230,7 @@ fn split_and_back(
     there_and_back(outline, store, runs, rows, sizes, d, i, j, path, counts)
 }
 
-fn change(
+fn edit(
     outline: &[i32],
     store: &mut [i32],
     runs: &mut [u32],
@@ -230,7 +238,8 @@ fn change(
     sizes: &mut [usize],
     list: &[i32],
     m: usize,
-    plan: Plan,
+    long: bool,
+    splits: usize,
     seed: &mut usize,
     counts: Counts,
 ) -> Counts
@@ -240,7 +249,7 @@ fn change(
     requires { ⌜ m ≤ room ⌝ }
 {
     let dice = draw(seed, 10);
-    if dice < plan.splits {
+    if dice < splits {
         return split(
             outline,
             store,
@@ -249,15 +258,78 @@ fn change(
             sizes,
             list,
             m,
-            plan.long,
+            long,
             seed,
             counts,
         );
     }
-    if dice < 9 {
+    if dice < LAST {
         return merge(outline, store, runs, rows, sizes, seed, counts);
     }
     split_and_back(outline, store, runs, rows, sizes, list, seed, counts)
+}
+
+// Founds with the first m numbers of a list.
+fn found(
+    outline: &mut [i32],
+    store: &mut [i32],
+    runs: &mut [u32],
+    rows: &mut [i32],
+    sizes: &mut [usize],
+    list: &[i32],
+    m: usize,
+    counts: Counts,
+) -> Counts
+    requires { ⌜ length (now rows) ≡ allRows ⌝ }
+    requires { ⌜ length (now sizes) ≡ manyRows ⌝ }
+    requires { ⌜ length (now list) ≡ room ⌝ }
+    requires { ⌜ m ≤ room ⌝ }
+{
+    let ring = &list[0..m];
+    counts.with(
+        Call::Found,
+        asking::found(outline, store, runs, rows, sizes, ring),
+    )
+}
+
+// Founds an empty register soon, and seldom tries to found another.
+fn change(
+    outline: &mut [i32],
+    store: &mut [i32],
+    runs: &mut [u32],
+    rows: &mut [i32],
+    sizes: &mut [usize],
+    list: &[i32],
+    m: usize,
+    life: Life,
+    splits: usize,
+    seed: &mut usize,
+    counts: Counts,
+) -> Counts
+    requires { ⌜ length (now rows) ≡ allRows ⌝ }
+    requires { ⌜ length (now sizes) ≡ manyRows ⌝ }
+    requires { ⌜ length (now list) ≡ room ⌝ }
+    requires { ⌜ m ≤ room ⌝ }
+{
+    if choosing::founding(sizes, seed) {
+        return found(outline, store, runs, rows, sizes, list, m, counts);
+    }
+    if life.edited {
+        return edit(
+            outline,
+            store,
+            runs,
+            rows,
+            sizes,
+            list,
+            m,
+            life.long,
+            splits,
+            seed,
+            counts,
+        );
+    }
+    counts
 }
 
 // After a change: a comparison of all that both hold, and a report.
@@ -281,13 +353,14 @@ pub fn inspected(
 }
 
 fn step(
-    outline: &[i32],
+    outline: &mut [i32],
     store: &mut [i32],
     runs: &mut [u32],
     rows: &mut [i32],
     sizes: &mut [usize],
     space: &mut [i32],
-    plan: Plan,
+    life: Life,
+    splits: usize,
     seed: &mut usize,
     counts: Counts,
 ) -> Counts
@@ -296,7 +369,7 @@ fn step(
     requires { ⌜ length (now sizes) ≡ manyRows ⌝ }
     requires { ⌜ length (now space) ≡ room ⌝ }
 {
-    let what = plan.what;
+    let what = life.what;
     let case = cases::make(choosing::kind(what, seed), space, seed);
     let c = change(
         outline,
@@ -306,21 +379,31 @@ fn step(
         sizes,
         space,
         case.m,
-        plan,
+        life,
+        splits,
         seed,
         counts,
     );
     inspected(outline, store, runs, rows, sizes, case.x, case.y, seed, c)
 }
 
-pub fn many(
-    outline: &[i32],
+// In the first third of a life districts become more, in the second fewer, and in the last more again.
+fn splits_at(t: usize, times: usize) -> usize {
+    let third = times / 3;
+    if (third <= t) & (t < 2 * third) {
+        return FEWER;
+    }
+    MORE
+}
+
+pub fn all(
+    outline: &mut [i32],
     store: &mut [i32],
     runs: &mut [u32],
     rows: &mut [i32],
     sizes: &mut [usize],
     space: &mut [i32],
-    plan: Plan,
+    life: Life,
     times: usize,
     seed: &mut usize,
     start: Counts,
@@ -333,7 +416,18 @@ pub fn many(
     let mut c = start;
     let mut t = 0;
     while t < times {
-        c = step(outline, store, runs, rows, sizes, space, plan, seed, c);
+        c = step(
+            outline,
+            store,
+            runs,
+            rows,
+            sizes,
+            space,
+            life,
+            splits_at(t, times),
+            seed,
+            c,
+        );
         t += 1;
     }
     c

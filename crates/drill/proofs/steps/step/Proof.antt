@@ -13,7 +13,7 @@ change-requires : tie.Need-change-requires
 change-requires c κs = search needs
 
 inspected-requires : tie.Need-inspected-requires
-inspected-requires c κs = search (needs, c .before .before .before .before .before .before .before .before .before .before .before .before .before .change .kept, c .before .before .before .before .before .before .before .before .before .before .before .before .before .before .before .before .before .before .before .before .before .before .before .before .before .before .before .before .pre)
+inspected-requires c κs = search (needs, c .before .before .before .before .before .before .before .before .before .before .before .before .before .before .before .change .kept, c .before .before .before .before .before .before .before .before .before .before .before .before .before .before .before .before .before .before .before .before .before .before .before .before .before .before .before .before .before .before .before .pre)
 
 same-length : tie.Need-same-length
 same-length c = search needs
@@ -28,7 +28,10 @@ same-length-4 : tie.Need-same-length-4
 same-length-4 c = search needs
 
 same-length-5 : tie.Need-same-length-5
-same-length-5 c = search (needs, c .before .before .before .before .before .before .before .before .before .before .before .before .before .before .before .before .before .before .before .before .before .before .make .kept)
+same-length-5 c = search needs
+
+same-length-6 : tie.Need-same-length-6
+same-length-6 c = search (needs, c .before .before .before .before .before .before .before .before .before .before .before .before .before .before .before .before .before .before .before .before .before .before .before .before .before .make .kept)
 
 returns : tie.Need-returns
 returns c = search needs
@@ -46,4 +49,5 @@ step-spec =
     same-length-3
     same-length-4
     same-length-5
+    same-length-6
     returns)

@@ -1,8 +1,8 @@
 -- `sums::of_districts` meets its contract. The invariant says nothing. The measure is how many are left. Assumes nothing.
 use Prim.Native.Nat.{_-_, _≤_}
 use borrow.Author.Needs.{needs}
-use Rattle.drill.proofs.sums.of_districts.Statement.{statement}
-use Rattle.drill.proofs.sums.of_districts.Tie as tie
+use Rattle.pair.proofs.sums.of_districts.Statement.{statement}
+use Rattle.pair.proofs.sums.of_districts.Tie as tie
 
 abbrev Inv-loop : tie.InvT-loop
 Inv-loop rows sizes x y turns₀ d₀ turns d = 0 ≤ d

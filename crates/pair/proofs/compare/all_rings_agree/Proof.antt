@@ -1,8 +1,8 @@
 -- `compare::all_rings_agree` meets its contract. The invariant says nothing. The measure is how many are left. Assumes nothing.
 use Prim.Native.Nat.{_-_, _≤_}
 use borrow.Author.Needs.{needs}
-use Rattle.drill.proofs.compare.all_rings_agree.Statement.{statement}
-use Rattle.drill.proofs.compare.all_rings_agree.Tie as tie
+use Rattle.pair.proofs.compare.all_rings_agree.Statement.{statement}
+use Rattle.pair.proofs.compare.all_rings_agree.Tie as tie
 
 abbrev Inv-loop : tie.InvT-loop
 Inv-loop store runs rows sizes good₀ d₀ good d = 0 ≤ d

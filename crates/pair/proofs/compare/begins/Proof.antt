@@ -1,8 +1,8 @@
 -- `compare::begins` meets its contract. The invariant says nothing. The measure is how many are left. Assumes nothing.
 use Prim.Native.Nat.{_-_, _≤_}
 use borrow.Author.Needs.{needs}
-use Rattle.drill.proofs.compare.begins.Statement.{statement}
-use Rattle.drill.proofs.compare.begins.Tie as tie
+use Rattle.pair.proofs.compare.begins.Statement.{statement}
+use Rattle.pair.proofs.compare.begins.Tie as tie
 
 abbrev Inv-loop : tie.InvT-loop
 Inv-loop list m rows d good₀ k₀ good k = 0 ≤ k
