@@ -9,7 +9,7 @@ pub fn all(t: Tally) -> Tally {
     refusals(half_the_grid(flat(bow_tie(square(t)))))
 }
 
-fn known(name: &[u8], list: &[i32], x: i32, y: i32, t: Tally) -> Tally {
+pub fn known(name: &[u8], list: &[i32], x: i32, y: i32, t: Tally) -> Tally {
     let a = answer::by_ring(list, x, y);
     let b = answer::by_second(list, x, y);
     say::text(name);

@@ -2,11 +2,14 @@
 // where they differ: first document 01's known points, a line each, then made rings, a line for each kind.
 // The rings come from a fixed seed, so that every run prints the same. Proved safe and ending; what it prints is compared.
 mod answer;
+mod edits;
 mod known;
+mod said;
 mod say;
 mod tally;
 
 use cases::Kind;
+use drill::Life;
 use tally::Tally;
 ghost use mathlib.Core.Path.{_≡_};
 ghost use lib.ListN.{length};
@@ -35,7 +38,130 @@ fn main() {
         &mut seed,
         all,
     );
+    all = edits::known_split(edits::listing(all));
+    all = reports(&mut seed, all);
+    all = edited(&mut seed, all);
     all.print_sum();
+}
+
+fn reports(seed: &mut usize, start: Tally) -> Tally {
+    let mut all = asked(
+        b"registers of small grids",
+        Kind::SmallGrid,
+        2_000,
+        seed,
+        start,
+    );
+    all = asked(
+        b"registers of doubled rings",
+        Kind::Doubled,
+        1_000,
+        seed,
+        all,
+    );
+    all = asked(b"registers of spiked rings", Kind::Spiked, 1_000, seed, all);
+    all = asked(
+        b"registers at the grid's limits",
+        Kind::Limits,
+        2_000,
+        seed,
+        all,
+    );
+    all = asked(b"registers of long rings", Kind::Long, 20, seed, all);
+    asked(b"registers to be refused", Kind::Broken, 500, seed, all)
+}
+
+// So many registers, each asked about a few times.
+fn asked(name: &[u8], what: Kind, lives: usize, seed: &mut usize, all: Tally) -> Tally {
+    let life = Life {
+        what,
+        long: false,
+        edited: false,
+        times: 12,
+    };
+    lived(name, life, lives, seed, all)
+}
+
+fn edited(seed: &mut usize, start: Tally) -> Tally {
+    let mut all = edit(
+        b"edits of small grids",
+        Kind::SmallGrid,
+        false,
+        60,
+        100,
+        seed,
+        start,
+    );
+    all = edit(
+        b"edits of doubled rings",
+        Kind::Doubled,
+        false,
+        60,
+        30,
+        seed,
+        all,
+    );
+    all = edit(
+        b"edits of spiked rings",
+        Kind::Spiked,
+        false,
+        60,
+        30,
+        seed,
+        all,
+    );
+    all = edit(
+        b"edits at the grid's limits",
+        Kind::Limits,
+        false,
+        60,
+        100,
+        seed,
+        all,
+    );
+    all = edit(
+        b"edits up to 64 districts",
+        Kind::SmallGrid,
+        false,
+        600,
+        4,
+        seed,
+        all,
+    );
+    edit(
+        b"edits up to a full store",
+        Kind::Long,
+        true,
+        150,
+        8,
+        seed,
+        all,
+    )
+}
+
+// So many registers, each edited so many times.
+fn edit(
+    name: &[u8],
+    what: Kind,
+    long: bool,
+    times: usize,
+    lives: usize,
+    seed: &mut usize,
+    all: Tally,
+) -> Tally {
+    let life = Life {
+        what,
+        long,
+        edited: true,
+        times,
+    };
+    lived(name, life, lives, seed, all)
+}
+
+fn lived(name: &[u8], life: Life, lives: usize, seed: &mut usize, all: Tally) -> Tally {
+    let c = drill::all(life, lives, seed);
+    said::counts(name, c);
+    all.with_registers(c)
 }
 
 // Asks about so many of one kind, prints what came of them, and adds that to all.

@@ -3,6 +3,7 @@ use crate::answer;
 use crate::answer::Answer;
 use crate::say;
 use cases::chance::mixed;
+use pair::counts::Counts;
 
 pub struct Tally {
     pub asked: usize,
@@ -50,6 +51,14 @@ impl Tally {
         self.asked = sum(self.asked, other.asked);
         self.differ = sum(self.differ, other.differ);
         self.digest = other.digest;
+        self
+    }
+
+    // With what came of registers.
+    pub fn with_registers(mut self, c: Counts) -> Tally {
+        self.asked = sum(self.asked, c.asked);
+        self.differ = sum(self.differ, c.differ);
+        self.digest = mixed(self.digest, c.digest);
         self
     }
 

@@ -1,0 +1,304 @@
+// Document 01's listing of edits and its known point of a split, each call printed with the packed register's answer.
+use crate::known;
+use crate::said;
+use crate::say;
+use crate::tally::Tally;
+use pair::asking;
+use pair::counts::Call;
+use pair::counts::Counts;
+ghost use mathlib.Core.Path.{_≡_};
+ghost use Prim.Native.Nat.{_<_};
+ghost use lib.ListN.{length};
+ghost use Rattle.rows.specs.Shape.{allRows, manyRows};
+
+const LISTED: usize = 8;
+
+const OVER_THE_TOP: usize = 4;
+
+enum Edit {
+    // With the square of document 01.
+    Outline,
+    Split {
+        d: usize,
+        i: usize,
+        j: usize,
+    },
+    Merge {
+        kept: usize,
+        a: usize,
+        gone: usize,
+        b: usize,
+        k: usize,
+    },
+    Report {
+        number: u32,
+        x: i32,
+        y: i32,
+    },
+}
+
+// Document 01's listing, whose splits have no path.
+fn listed(k: usize) -> Edit {
+    match k {
+        0 => Edit::Outline,
+        1 => Edit::Split { d: 0, i: 0, j: 2 },
+        2 => Edit::Report {
+            number: 700,
+            x: 3,
+            y: 1,
+        },
+        3 => Edit::Report {
+            number: 701,
+            x: 2,
+            y: 2,
+        },
+        4 => Edit::Report {
+            number: 702,
+            x: 9,
+            y: 9,
+        },
+        5 => Edit::Split { d: 1, i: 0, j: 1 },
+        6 => Edit::Merge {
+            kept: 0,
+            a: 2,
+            gone: 1,
+            b: 0,
+            k: 1,
+        },
+        _ => Edit::Report {
+            number: 703,
+            x: 2,
+            y: 2,
+        },
+    }
+}
+
+// A split along a path that leaves the square.
+fn over_the_top(k: usize) -> Edit {
+    match k {
+        0 => Edit::Outline,
+        1 => Edit::Split { d: 0, i: 0, j: 1 },
+        2 => Edit::Report {
+            number: 0,
+            x: 2,
+            y: 6,
+        },
+        _ => Edit::Report {
+            number: 1,
+            x: 2,
+            y: 2,
+        },
+    }
+}
+
+fn edit_at(over: bool, k: usize) -> Edit {
+    if over {
+        return over_the_top(k);
+    }
+    listed(k)
+}
+
+fn outline_square(
+    outline: &mut [i32],
+    store: &mut [i32],
+    runs: &mut [u32],
+    rows: &mut [i32],
+    sizes: &mut [usize],
+    counts: Counts,
+) -> Counts
+    requires { ⌜ length (now rows) ≡ allRows ⌝ }
+    requires { ⌜ length (now sizes) ≡ manyRows ⌝ }
+{
+    let corners = [0, 0, 4, 0, 4, 4, 0, 4];
+    let both = asking::found(outline, store, runs, rows, sizes, &corners);
+    said::both(b"outline ", both);
+    counts.with(Call::Found, both)
+}
+
+fn split(
+    outline: &[i32],
+    store: &mut [i32],
+    runs: &mut [u32],
+    rows: &mut [i32],
+    sizes: &mut [usize],
+    d: usize,
+    i: usize,
+    j: usize,
+    path: &[i32],
+    counts: Counts,
+) -> Counts
+    requires { ⌜ length (now rows) ≡ allRows ⌝ }
+    requires { ⌜ length (now sizes) ≡ manyRows ⌝ }
+{
+    let both = asking::split(outline, store, runs, rows, sizes, d, i, j, path);
+    said::both(b"split ", both);
+    counts.with(Call::Split, both)
+}
+
+fn merge(
+    outline: &[i32],
+    store: &mut [i32],
+    runs: &mut [u32],
+    rows: &mut [i32],
+    sizes: &mut [usize],
+    kept: usize,
+    a: usize,
+    gone: usize,
+    b: usize,
+    k: usize,
+    counts: Counts,
+) -> Counts
+    requires { ⌜ length (now rows) ≡ allRows ⌝ }
+    requires { ⌜ length (now sizes) ≡ manyRows ⌝ }
+{
+    let both = asking::merge(outline, store, runs, rows, sizes, kept, a, gone, b, k);
+    said::both(b"merge ", both);
+    counts.with(Call::Merge, both)
+}
+
+fn report(
+    outline: &[i32],
+    store: &[i32],
+    runs: &[u32],
+    rows: &[i32],
+    sizes: &[usize],
+    number: u32,
+    x: i32,
+    y: i32,
+    counts: Counts,
+) -> Counts
+    requires { ⌜ length (now rows) ≡ allRows ⌝ }
+    requires { ⌜ length (now sizes) ≡ manyRows ⌝ }
+{
+    let both = asking::report(outline, store, runs, rows, sizes, number, x, y);
+    say::counted(b"report ", both.packed.report);
+    said::both(b" ", both);
+    counts.with(Call::Report, both)
+}
+
+fn perform(
+    outline: &mut [i32],
+    store: &mut [i32],
+    runs: &mut [u32],
+    rows: &mut [i32],
+    sizes: &mut [usize],
+    edit: Edit,
+    path: &[i32],
+    counts: Counts,
+) -> Counts
+    requires { ⌜ length (now rows) ≡ allRows ⌝ }
+    requires { ⌜ length (now sizes) ≡ manyRows ⌝ }
+{
+    match edit {
+        Edit::Outline => outline_square(outline, store, runs, rows, sizes, counts),
+        Edit::Split { d, i, j } => {
+            split(outline, store, runs, rows, sizes, d, i, j, path, counts)
+        }
+        Edit::Merge {
+            kept,
+            a,
+            gone,
+            b,
+            k,
+        } => merge(
+            outline,
+            store,
+            runs,
+            rows,
+            sizes,
+            kept,
+            a,
+            gone,
+            b,
+            k,
+            counts,
+        ),
+        Edit::Report { number, x, y } => {
+            report(outline, store, runs, rows, sizes, number, x, y, counts)
+        }
+    }
+}
+
+fn perform_all(
+    outline: &mut [i32],
+    store: &mut [i32],
+    runs: &mut [u32],
+    rows: &mut [i32],
+    sizes: &mut [usize],
+    name: &[u8],
+    over: bool,
+    last: usize,
+    path: &[i32],
+) -> Counts
+    requires { ⌜ length (now rows) ≡ allRows ⌝ }
+    requires { ⌜ length (now sizes) ≡ manyRows ⌝ }
+{
+    let mut c = Counts::new();
+    let mut k = 0;
+    while k < last {
+        say::text(name);
+        c = perform(outline, store, runs, rows, sizes, edit_at(over, k), path, c);
+        k += 1;
+    }
+    c
+}
+
+// How often district d's ring goes round (2,6).
+fn winding(name: &[u8], store: &[i32], runs: &[u32], d: usize, t: Tally) -> Tally
+    requires { ⌜ length (now runs) ≡ 129 ⌝ }
+    requires { ⌜ d < 64 ⌝ }
+{
+    let from = 2 * districts::first_place(runs, d);
+    let to = from + 2 * districts::size(runs, d);
+    if store.len() < to {
+        return t;
+    }
+    known::known(name, &store[from..to], 2, 6, t)
+}
+
+pub fn listing(t: Tally) -> Tally {
+    let mut outline = [0i32; districts::OUTLINE_LENGTH];
+    let mut store = [0i32; districts::STORE_LENGTH];
+    let mut runs = [0u32; districts::RUNS_LENGTH];
+    let mut rows = [0i32; rows::ROWS_LENGTH];
+    let mut sizes = [0usize; rows::ROWS];
+    let c = perform_all(
+        &mut outline,
+        &mut store,
+        &mut runs,
+        &mut rows,
+        &mut sizes,
+        b"listing: ",
+        false,
+        LISTED,
+        &[],
+    );
+    t.with_registers(c)
+}
+
+pub fn known_split(t: Tally) -> Tally {
+    let mut outline = [0i32; districts::OUTLINE_LENGTH];
+    let mut store = [0i32; districts::STORE_LENGTH];
+    let mut runs = [0u32; districts::RUNS_LENGTH];
+    let mut rows = [0i32; rows::ROWS_LENGTH];
+    let mut sizes = [0usize; rows::ROWS];
+    let c = perform_all(
+        &mut outline,
+        &mut store,
+        &mut runs,
+        &mut rows,
+        &mut sizes,
+        b"path over the top: ",
+        true,
+        OVER_THE_TOP,
+        &[2, 9],
+    );
+    let one = winding(
+        b"path over the top: district 0",
+        &store,
+        &runs,
+        0,
+        t.with_registers(c),
+    );
+    winding(b"path over the top: district 1", &store, &runs, 1, one)
+}
