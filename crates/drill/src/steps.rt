@@ -1,8 +1,8 @@
 // The steps of a drill: a call to both registers, and what is compared after it.
-use crate::choosing;
-use crate::matching;
 use cases::Kind;
 use cases::chance::draw;
+use choices::choosing;
+use choices::matching;
 use pair::answer;
 use pair::answer::Both;
 use pair::asking;

@@ -4,4 +4,5 @@ pub mod answer;
 pub mod asking;
 pub mod compare;
 pub mod counts;
+pub mod edit;
 pub mod sums;

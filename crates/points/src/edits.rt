@@ -3,9 +3,10 @@ use crate::known;
 use crate::said;
 use crate::say;
 use crate::tally::Tally;
-use pair::asking;
-use pair::counts::Call;
+use pair::answer::Both;
 use pair::counts::Counts;
+use pair::edit;
+use pair::edit::Edit;
 ghost use mathlib.Core.Path.{_≡_};
 ghost use Prim.Native.Nat.{_<_};
 ghost use lib.ListN.{length};
@@ -14,28 +15,6 @@ ghost use Rattle.rows.specs.Shape.{allRows, manyRows};
 const LISTED: usize = 8;
 
 const OVER_THE_TOP: usize = 4;
-
-enum Edit {
-    // With the square of document 01.
-    Outline,
-    Split {
-        d: usize,
-        i: usize,
-        j: usize,
-    },
-    Merge {
-        kept: usize,
-        a: usize,
-        gone: usize,
-        b: usize,
-        k: usize,
-    },
-    Report {
-        number: u32,
-        x: i32,
-        y: i32,
-    },
-}
 
 // Document 01's listing, whose splits have no path.
 fn listed(k: usize) -> Edit {
@@ -98,125 +77,30 @@ fn edit_at(over: bool, k: usize) -> Edit {
     listed(k)
 }
 
-fn outline_square(
-    outline: &mut [i32],
-    store: &mut [i32],
-    runs: &mut [u32],
-    rows: &mut [i32],
-    sizes: &mut [usize],
-    counts: Counts,
-) -> Counts
-    requires { ⌜ length (now rows) ≡ allRows ⌝ }
-    requires { ⌜ length (now sizes) ≡ manyRows ⌝ }
-{
-    let corners = [0, 0, 4, 0, 4, 4, 0, 4];
-    let both = asking::found(outline, store, runs, rows, sizes, &corners);
-    said::both(b"outline ", both);
-    counts.with(Call::Found, both)
-}
-
-fn split(
-    outline: &[i32],
-    store: &mut [i32],
-    runs: &mut [u32],
-    rows: &mut [i32],
-    sizes: &mut [usize],
-    d: usize,
-    i: usize,
-    j: usize,
-    path: &[i32],
-    counts: Counts,
-) -> Counts
-    requires { ⌜ length (now rows) ≡ allRows ⌝ }
-    requires { ⌜ length (now sizes) ≡ manyRows ⌝ }
-{
-    let both = asking::split(outline, store, runs, rows, sizes, d, i, j, path);
-    said::both(b"split ", both);
-    counts.with(Call::Split, both)
-}
-
-fn merge(
-    outline: &[i32],
-    store: &mut [i32],
-    runs: &mut [u32],
-    rows: &mut [i32],
-    sizes: &mut [usize],
-    kept: usize,
-    a: usize,
-    gone: usize,
-    b: usize,
-    k: usize,
-    counts: Counts,
-) -> Counts
-    requires { ⌜ length (now rows) ≡ allRows ⌝ }
-    requires { ⌜ length (now sizes) ≡ manyRows ⌝ }
-{
-    let both = asking::merge(outline, store, runs, rows, sizes, kept, a, gone, b, k);
-    said::both(b"merge ", both);
-    counts.with(Call::Merge, both)
-}
-
-fn report(
-    outline: &[i32],
-    store: &[i32],
-    runs: &[u32],
-    rows: &[i32],
-    sizes: &[usize],
-    number: u32,
-    x: i32,
-    y: i32,
-    counts: Counts,
-) -> Counts
-    requires { ⌜ length (now rows) ≡ allRows ⌝ }
-    requires { ⌜ length (now sizes) ≡ manyRows ⌝ }
-{
-    let both = asking::report(outline, store, runs, rows, sizes, number, x, y);
-    say::counted(b"report ", both.packed.report);
-    said::both(b" ", both);
-    counts.with(Call::Report, both)
-}
-
-fn perform(
-    outline: &mut [i32],
-    store: &mut [i32],
-    runs: &mut [u32],
-    rows: &mut [i32],
-    sizes: &mut [usize],
-    edit: Edit,
-    path: &[i32],
-    counts: Counts,
-) -> Counts
-    requires { ⌜ length (now rows) ≡ allRows ⌝ }
-    requires { ⌜ length (now sizes) ≡ manyRows ⌝ }
-{
+// Prints one call as document 01 does.
+fn print(edit: Edit, both: Both) {
     match edit {
-        Edit::Outline => outline_square(outline, store, runs, rows, sizes, counts),
-        Edit::Split { d, i, j } => {
-            split(outline, store, runs, rows, sizes, d, i, j, path, counts)
-        }
+        Edit::Outline => said::outlined(both),
+        Edit::Split { d: _, i: _, j: _ } => said::both(b"split ", both),
         Edit::Merge {
-            kept,
-            a,
-            gone,
-            b,
-            k,
-        } => merge(
-            outline,
-            store,
-            runs,
-            rows,
-            sizes,
-            kept,
-            a,
-            gone,
-            b,
-            k,
-            counts,
-        ),
-        Edit::Report { number, x, y } => {
-            report(outline, store, runs, rows, sizes, number, x, y, counts)
-        }
+            kept: _,
+            a: _,
+            gone: _,
+            b: _,
+            k: _,
+        } => said::both(b"merge ", both),
+        Edit::Report {
+            number: _,
+            x: _,
+            y: _,
+        } => said::reported(both),
     }
+}
+
+fn counted(name: &[u8], e: Edit, both: Both, counts: Counts) -> Counts {
+    say::text(name);
+    print(e, both);
+    counts.with(edit::call_of(e), both)
 }
 
 fn perform_all(
@@ -228,6 +112,7 @@ fn perform_all(
     name: &[u8],
     over: bool,
     last: usize,
+    ring: &[i32],
     path: &[i32],
 ) -> Counts
     requires { ⌜ length (now rows) ≡ allRows ⌝ }
@@ -236,8 +121,9 @@ fn perform_all(
     let mut c = Counts::new();
     let mut k = 0;
     while k < last {
-        say::text(name);
-        c = perform(outline, store, runs, rows, sizes, edit_at(over, k), path, c);
+        let e = edit_at(over, k);
+        let both = edit::perform(outline, store, runs, rows, sizes, e, ring, path);
+        c = counted(name, e, both, c);
         k += 1;
     }
     c
@@ -271,6 +157,7 @@ pub fn listing(t: Tally) -> Tally {
         b"listing: ",
         false,
         LISTED,
+        &[0, 0, 4, 0, 4, 4, 0, 4],
         &[],
     );
     t.with_registers(c)
@@ -291,6 +178,7 @@ pub fn known_split(t: Tally) -> Tally {
         b"path over the top: ",
         true,
         OVER_THE_TOP,
+        &[0, 0, 4, 0, 4, 4, 0, 4],
         &[2, 9],
     );
     let one = winding(

@@ -34,6 +34,20 @@ pub fn both(before: &[u8], b: Both) {
     say::text(b"\n");
 }
 
+// An outline has no number to tell.
+pub fn outlined(b: Both) {
+    if b.same() & (b.packed.what == answer::DONE) {
+        say::text(b"outline ok\n");
+        return;
+    }
+    both(b"outline ", b);
+}
+
+pub fn reported(b: Both) {
+    say::counted(b"report ", b.packed.report);
+    both(b" ", b);
+}
+
 fn refusals(c: Counts) {
     let refused = c.refused;
     let mut no = 0;
@@ -56,7 +70,7 @@ fn accepted(c: Counts) {
     say::counted(b", merges ", c.merges);
 }
 
-fn reported(c: Counts) {
+fn classes(c: Counts) {
     say::counted(b", border ", c.border);
     say::counted(b", one ", c.one);
     say::counted(b", none ", c.none);
@@ -67,7 +81,7 @@ pub fn counts(name: &[u8], c: Counts) {
     say::text(name);
     say::counted(b": asked ", c.asked);
     accepted(c);
-    reported(c);
+    classes(c);
     refusals(c);
     say::counted(b", store full ", c.full);
     say::counted(b", sums ", c.summed);

@@ -8,11 +8,11 @@ use Rattle.points.proofs.edits.perform_all.Statement.{statement}
 use Rattle.points.proofs.edits.perform_all.Tie as tie
 
 abbrev Inv-loop : tie.InvT-loop
-Inv-loop outline₀ store₀ runs₀ rows₀ sizes₀ name over last path c₀ k₀ outline store runs rows sizes c k =
+Inv-loop outline₀ store₀ runs₀ rows₀ sizes₀ name over last ring path c₀ k₀ outline store runs rows sizes c k =
     (length outline ≡ length outline₀) × (length store ≡ length store₀) × (length runs ≡ length runs₀) × (length rows ≡ allRows) × (length sizes ≡ manyRows)
 
 abbrev μ-loop : tie.MeasureT-loop
-μ-loop outline₀ store₀ runs₀ rows₀ sizes₀ name over last path c₀ k₀ outline store runs rows sizes c k =
+μ-loop outline₀ store₀ runs₀ rows₀ sizes₀ name over last ring path c₀ k₀ outline store runs rows sizes c k =
     last - k
 
 new-requires : tie.Need-new-requires Inv-loop μ-loop
@@ -21,23 +21,23 @@ new-requires c κs = search needs
 loop-holds : tie.Need-loop-holds Inv-loop μ-loop
 loop-holds c = search needs
 
-text-requires : tie.Need-text-requires Inv-loop μ-loop
-text-requires c κs = search needs
-
 edit-at-requires : tie.Need-edit-at-requires Inv-loop μ-loop
 edit-at-requires c κs = search needs
 
 perform-requires : tie.Need-perform-requires Inv-loop μ-loop
 perform-requires c κs = search needs
 
+counted-requires : tie.Need-counted-requires Inv-loop μ-loop
+counted-requires c κs = search needs
+
 add-k : tie.Need-add-k Inv-loop μ-loop
 add-k c = search (needs, c .before .before .before .before .before .before .before .before .before .before .before .before .before .before .before .loop-test, c .before .before .before .before .before .before .before .before .before .before .before .before .before .before .before .before .before .before .before .before .before .fits)
 
 loop-less : tie.Need-loop-less Inv-loop μ-loop
-loop-less c = search needs
+loop-less c = search (needs, c .before .before .before .before .before .before .before .before .before .before .before .before .before .before .before .loop-test)
 
 loop-again : tie.Need-loop-again Inv-loop μ-loop
-loop-again c = search needs
+loop-again c = search (needs, c .before .before .before .before .before .before .before .before .perform .kept, c .before .before .before .before .before .before .before .before .before .before .before .before .before .before .before .before .loop)
 
 same-length : tie.Need-same-length Inv-loop μ-loop
 same-length c = search needs
@@ -65,9 +65,9 @@ perform-all-spec =
     μ-loop
     new-requires
     loop-holds
-    text-requires
     edit-at-requires
     perform-requires
+    counted-requires
     add-k
     loop-less
     loop-again

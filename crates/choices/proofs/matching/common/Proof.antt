@@ -1,8 +1,8 @@
 -- `matching::common` meets its contract. The invariant: k is at least 1 and at most 2048. The measure is how many are left. Assumes nothing.
 use Prim.Native.Nat.{_-_, _<_, _≤_}
 use borrow.Author.Needs.{needs}
-use Rattle.drill.proofs.matching.common.Statement.{statement}
-use Rattle.drill.proofs.matching.common.Tie as tie
+use Rattle.choices.proofs.matching.common.Statement.{statement}
+use Rattle.choices.proofs.matching.common.Tie as tie
 
 abbrev Inv-loop : tie.InvT-loop
 Inv-loop rows d n a e m b most k₀ k = (0 < k) × (k ≤ 2048)

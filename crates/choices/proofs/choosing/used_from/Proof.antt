@@ -1,14 +1,14 @@
--- `matching::neighbour` meets its contract. The invariant says nothing. The measure is how many are left. Assumes nothing.
+-- `choosing::used_from` meets its contract. The invariant says nothing. The measure is how many are left. Assumes nothing.
 use Prim.Native.Nat.{_-_, _≤_}
 use borrow.Author.Needs.{needs}
-use Rattle.drill.proofs.matching.neighbour.Statement.{statement}
-use Rattle.drill.proofs.matching.neighbour.Tie as tie
+use Rattle.choices.proofs.choosing.used_from.Statement.{statement}
+use Rattle.choices.proofs.choosing.used_from.Tie as tie
 
 abbrev Inv-loop : tie.InvT-loop
-Inv-loop rows sizes d n a from t₀ t = 0 ≤ t
+Inv-loop sizes from t₀ t = 0 ≤ t
 
 abbrev μ-loop : tie.MeasureT-loop
-μ-loop rows sizes d n a from t₀ t = 64 - t
+μ-loop sizes from t₀ t = 64 - t
 
 loop-holds : tie.Need-loop-holds Inv-loop μ-loop
 loop-holds c = search needs
@@ -21,9 +21,6 @@ wrapped-requires c κs = search needs
 
 size-requires : tie.Need-size-requires Inv-loop μ-loop
 size-requires c κs = search needs
-
-edge-in-requires : tie.Need-edge-in-requires Inv-loop μ-loop
-edge-in-requires c κs = search needs
 
 returns : tie.Need-returns Inv-loop μ-loop
 returns c = search needs
@@ -40,8 +37,8 @@ loop-again c = search needs
 returns-2 : tie.Need-returns-2 Inv-loop μ-loop
 returns-2 c = search needs
 
-pub neighbour-spec : {M : Type 1} → statement M
-neighbour-spec =
+pub used-from-spec : {M : Type 1} → statement M
+used-from-spec =
     tie.close
     (tie.spec
     Inv-loop
@@ -50,7 +47,6 @@ neighbour-spec =
     add-wrapped
     wrapped-requires
     size-requires
-    edge-in-requires
     returns
     add-t
     loop-less

@@ -1,8 +1,8 @@
 -- `matching::edge_in` meets its contract. The invariant says nothing. The measure is how many are left. Assumes nothing.
 use Prim.Native.Nat.{_-_, _≤_}
 use borrow.Author.Needs.{needs}
-use Rattle.drill.proofs.matching.edge_in.Statement.{statement}
-use Rattle.drill.proofs.matching.edge_in.Tie as tie
+use Rattle.choices.proofs.matching.edge_in.Statement.{statement}
+use Rattle.choices.proofs.matching.edge_in.Tie as tie
 
 abbrev Inv-loop : tie.InvT-loop
 Inv-loop rows d n a e m b₀ b = 0 ≤ b
