@@ -1,5 +1,6 @@
 // Asks two independent ways where points lie against rings, `ring` by quarter turns and `second` by triangles, and prints
-// where they differ: first document 01's known points, a line each, then made rings, a line for each kind.
+// where they differ: first document 01's known points, a line each, then made rings, a line for each kind. Then registers, packed and
+// by rows: document 01's listing of edits, a line each, and made registers that are asked about and edited, a line for each drill.
 // The rings come from a fixed seed, so that every run prints the same. Proved safe and ending; what it prints is compared.
 mod answer;
 mod edits;
