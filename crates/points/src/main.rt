@@ -1,14 +1,14 @@
 // Asks two independent ways where points lie against rings, `ring` by quarter turns and `second` by triangles, and prints
-// where they differ: first document 01's known points, a line each, then made rings, a line for each kind.
+// where they differ: first document 01's known points, a line each, then made rings, a line for each kind. Then registers, packed and
+// by rows: document 01's listing of edits, a line each, and made registers that are asked about and edited, a line for each drill.
 // The rings come from a fixed seed, so that every run prints the same. Proved safe and ending; what it prints is compared.
-mod answer;
-mod drills;
-mod known;
-mod say;
-mod tally;
+mod damage;
+mod lives;
 
 use cases::Kind;
-use tally::Tally;
+use lines::answer;
+use lines::known;
+use lines::score::Score;
 ghost use mathlib.Core.Path.{_≡_};
 ghost use lib.ListN.{length};
 ghost use Rattle.cases.specs.Room.{room};
@@ -17,7 +17,7 @@ const SEED: usize = 20_011_120;
 
 fn main() {
     let mut seed = SEED;
-    let mut all = known::all(Tally::new());
+    let mut all = known::all(Score::new());
     all = kind(b"small grids", Kind::SmallGrid, 200_000, &mut seed, all);
     all = kind(b"doubled rings", Kind::Doubled, 100_000, &mut seed, all);
     all = kind(b"spiked rings", Kind::Spiked, 100_000, &mut seed, all);
@@ -36,19 +36,21 @@ fn main() {
         &mut seed,
         all,
     );
-    all = drills::all(all);
+    all = known_edits::known_split(known_edits::listing(all));
+    all = lives::all(&mut seed, all);
+    all = damage::all(all);
     all.print_sum();
 }
 
 // Asks about so many of one kind, prints what came of them, and adds that to all.
-fn kind(name: &[u8], what: Kind, times: usize, seed: &mut usize, all: Tally) -> Tally {
+fn kind(name: &[u8], what: Kind, times: usize, seed: &mut usize, all: Score) -> Score {
     let mut space = [0i32; cases::ROOM];
     let t = many(what, times, &mut space, seed, all.started());
     t.print(name);
     all.with(t)
 }
 
-fn many(what: Kind, times: usize, list: &mut [i32], seed: &mut usize, start: Tally) -> Tally
+fn many(what: Kind, times: usize, list: &mut [i32], seed: &mut usize, start: Score) -> Score
     requires { ⌜ length (now list) ≡ room ⌝ }
 {
     let mut t = start;
@@ -60,7 +62,7 @@ fn many(what: Kind, times: usize, list: &mut [i32], seed: &mut usize, start: Tal
     t
 }
 
-fn one(what: Kind, list: &mut [i32], seed: &mut usize, t: Tally) -> Tally
+fn one(what: Kind, list: &mut [i32], seed: &mut usize, t: Score) -> Score
     requires { ⌜ length (now list) ≡ room ⌝ }
 {
     let case = cases::make(what, list, seed);

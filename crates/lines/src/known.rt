@@ -1,15 +1,15 @@
 // The known points of document 01 that concern locating, each printed as the picture, the point and `ring`'s answer.
 use crate::answer;
 use crate::say;
-use crate::tally::Tally;
+use crate::score::Score;
 
 const FAR: i32 = 1_000_000_000;
 
-pub fn all(t: Tally) -> Tally {
+pub fn all(t: Score) -> Score {
     refusals(half_the_grid(flat(bow_tie(square(t)))))
 }
 
-fn known(name: &[u8], list: &[i32], x: i32, y: i32, t: Tally) -> Tally {
+pub fn known(name: &[u8], list: &[i32], x: i32, y: i32, t: Score) -> Score {
     let a = answer::by_ring(list, x, y);
     let b = answer::by_second(list, x, y);
     say::text(name);
@@ -23,7 +23,7 @@ fn known(name: &[u8], list: &[i32], x: i32, y: i32, t: Tally) -> Tally {
     t.counted(a, b)
 }
 
-fn square(start: Tally) -> Tally {
+fn square(start: Score) -> Score {
     let corners = [0, 0, 4, 0, 4, 4, 0, 4];
     let mut t = known(b"square", &corners, 2, 2, start);
     t = known(b"square", &corners, 5, 2, t);
@@ -40,27 +40,27 @@ fn square(start: Tally) -> Tally {
     )
 }
 
-fn bow_tie(start: Tally) -> Tally {
+fn bow_tie(start: Score) -> Score {
     let corners = [0, 0, 4, 4, 4, 0, 0, 4];
     let mut t = known(b"bow tie", &corners, 3, 2, start);
     t = known(b"bow tie", &corners, 1, 2, t);
     known(b"bow tie", &corners, 2, 2, t)
 }
 
-fn flat(start: Tally) -> Tally {
+fn flat(start: Score) -> Score {
     let corners = [1, 1, 1, 1, 1, 1];
     let mut t = known(b"one point three times", &corners, 1, 1, start);
     t = known(b"one point three times", &corners, 0, 0, t);
     known(b"there and half way back", &[0, 0, 4, 0, 2, 0], 3, 0, t)
 }
 
-fn half_the_grid(start: Tally) -> Tally {
+fn half_the_grid(start: Score) -> Score {
     let corners = [-FAR, -FAR, FAR, -FAR, FAR, FAR];
     let t = known(b"half the grid", &corners, 1, 0, start);
     known(b"half the grid", &corners, 0, 1, t)
 }
 
-fn refusals(start: Tally) -> Tally {
+fn refusals(start: Score) -> Score {
     let mut t = known(
         b"coordinate 1000000001",
         &[0, 0, 1_000_000_001, 0, 4, 4],

@@ -1,8 +1,8 @@
 // The drills of damaged registers, of litter in the free room, and of the tally, a line for each kind: what was asked, and how many
 // answered otherwise than they must.
-use crate::say;
-use crate::tally::Tally;
 use harm::Damage;
+use lines::say;
+use lines::score::Score;
 use reports::Litter;
 use reports::Sorted;
 
@@ -13,7 +13,7 @@ const REGISTERS: usize = 300;
 
 const REPORTS: usize = 3_000;
 
-pub fn all(start: Tally) -> Tally {
+pub fn all(start: Score) -> Score {
     let mut seed = SEED;
     let mut t = lengths(start, &mut seed);
     t = sizes(t, &mut seed);
@@ -23,7 +23,7 @@ pub fn all(start: Tally) -> Tally {
     tallies(t, &mut seed)
 }
 
-fn lengths(start: Tally, seed: &mut usize) -> Tally {
+fn lengths(start: Score, seed: &mut usize) -> Score {
     let mut t = damaged(
         b"outline list of a wrong length",
         Damage::OutlineLength,
@@ -39,7 +39,7 @@ fn lengths(start: Tally, seed: &mut usize) -> Tally {
     )
 }
 
-fn sizes(start: Tally, seed: &mut usize) -> Tally {
+fn sizes(start: Score, seed: &mut usize) -> Score {
     let mut t = damaged(
         b"outline of 1, 2 or 2049 vertices",
         Damage::OutlineSize,
@@ -61,7 +61,7 @@ fn sizes(start: Tally, seed: &mut usize) -> Tally {
     )
 }
 
-fn packing(start: Tally, seed: &mut usize) -> Tally {
+fn packing(start: Score, seed: &mut usize) -> Score {
     let mut t = damaged(b"runs that overlap", Damage::Overlap, start, seed);
     t = damaged(b"gap between or before runs", Damage::Gap, t, seed);
     t = damaged(b"run beyond the store", Damage::BeyondStore, t, seed);
@@ -73,7 +73,7 @@ fn packing(start: Tally, seed: &mut usize) -> Tally {
     )
 }
 
-fn coordinates(start: Tally, seed: &mut usize) -> Tally {
+fn coordinates(start: Score, seed: &mut usize) -> Score {
     let t = damaged(
         b"outline beyond the grid",
         Damage::OutlineCoordinate,
@@ -88,7 +88,7 @@ fn coordinates(start: Tally, seed: &mut usize) -> Tally {
     )
 }
 
-fn damaged(name: &[u8], what: Damage, t: Tally, seed: &mut usize) -> Tally {
+fn damaged(name: &[u8], what: Damage, t: Score, seed: &mut usize) -> Score {
     let r = faults::damaged(what, REGISTERS, seed);
     say::text(name);
     say::counted(b": registers ", r.registers);
@@ -100,13 +100,13 @@ fn damaged(name: &[u8], what: Damage, t: Tally, seed: &mut usize) -> Tally {
     with(t, r.asked, r.differ)
 }
 
-fn free_room(start: Tally, seed: &mut usize) -> Tally {
+fn free_room(start: Score, seed: &mut usize) -> Score {
     let mut t = littered(b"litter behind the outline", Litter::Outline, start, seed);
     t = littered(b"litter behind the last run", Litter::Store, t, seed);
     littered(b"first places of unused numbers", Litter::Places, t, seed)
 }
 
-fn littered(name: &[u8], what: Litter, t: Tally, seed: &mut usize) -> Tally {
+fn littered(name: &[u8], what: Litter, t: Score, seed: &mut usize) -> Score {
     let s = reports::littered(what, REGISTERS, seed);
     sorted(name, s);
     with(t, s.asked, s.differ)
@@ -124,7 +124,7 @@ fn sorted(name: &[u8], s: Sorted) {
     say::text(b"\n");
 }
 
-fn tallies(t: Tally, seed: &mut usize) -> Tally {
+fn tallies(t: Score, seed: &mut usize) -> Score {
     let s = tally_drills::counted_run(REPORTS, seed);
     sorted(b"tally of a run of reports", s);
     let l = tally_drills::at_limit();
@@ -137,7 +137,7 @@ fn tallies(t: Tally, seed: &mut usize) -> Tally {
     with(with(t, s.asked, s.differ), l.asked, l.differ)
 }
 
-fn with(t: Tally, asked: usize, differ: usize) -> Tally {
+fn with(t: Score, asked: usize, differ: usize) -> Score {
     let mut u = t.started();
     u.asked = asked;
     u.differ = differ;

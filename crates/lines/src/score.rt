@@ -3,8 +3,9 @@ use crate::answer;
 use crate::answer::Answer;
 use crate::say;
 use cases::chance::mixed;
+use pair::counts::Counts;
 
-pub struct Tally {
+pub struct Score {
     pub asked: usize,
     pub vertex: usize,
     pub edge: usize,
@@ -22,9 +23,9 @@ fn sum(a: usize, b: usize) -> usize {
     std::num::wrapping_add_usize(a, b)
 }
 
-impl Tally {
-    pub fn new() -> Tally {
-        Tally {
+impl Score {
+    pub fn new() -> Score {
+        Score {
             asked: 0,
             vertex: 0,
             edge: 0,
@@ -39,21 +40,29 @@ impl Tally {
     }
 
     // A fresh tally that takes the digest on.
-    pub fn started(self) -> Tally {
-        let mut t = Tally::new();
+    pub fn started(self) -> Score {
+        let mut t = Score::new();
         t.digest = self.digest;
         t
     }
 
     // With what another tally, started from this one, has counted.
-    pub fn with(mut self, other: Tally) -> Tally {
+    pub fn with(mut self, other: Score) -> Score {
         self.asked = sum(self.asked, other.asked);
         self.differ = sum(self.differ, other.differ);
         self.digest = other.digest;
         self
     }
 
-    pub fn counted(self, a: Answer, b: Answer) -> Tally {
+    // With what came of registers.
+    pub fn with_registers(mut self, c: Counts) -> Score {
+        self.asked = sum(self.asked, c.asked);
+        self.differ = sum(self.differ, c.differ);
+        self.digest = mixed(self.digest, c.digest);
+        self
+    }
+
+    pub fn counted(self, a: Answer, b: Answer) -> Score {
         let mut t = self.classed(a);
         t.asked = sum(t.asked, 1);
         if !a.same(b) {
@@ -63,7 +72,7 @@ impl Tally {
         t
     }
 
-    fn classed(mut self, a: Answer) -> Tally {
+    fn classed(mut self, a: Answer) -> Score {
         let what = a.what;
         match what {
             answer::VERTEX => self.vertex = sum(self.vertex, 1),
@@ -74,7 +83,7 @@ impl Tally {
         self
     }
 
-    fn wound(mut self, turns: usize) -> Tally {
+    fn wound(mut self, turns: usize) -> Score {
         match turns {
             0 => self.off_zero = sum(self.off_zero, 1),
             1 => self.off_one = sum(self.off_one, 1),
@@ -83,7 +92,7 @@ impl Tally {
         self
     }
 
-    fn refused(mut self, number: usize) -> Tally {
+    fn refused(mut self, number: usize) -> Score {
         if number == answer::NO_RING {
             self.no_ring = sum(self.no_ring, 1);
         } else {

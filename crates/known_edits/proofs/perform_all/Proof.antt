@@ -1,0 +1,79 @@
+-- `perform_all` meets its contract. The invariant: the lists keep their lengths. The measure is how many are left. Assumes nothing.
+use Rattle.rows.specs.Shape.{allRows, manyRows}
+use mathlib.Core.Path.{_≡_}
+use Prim.Native.Nat.{_-_}
+use lib.ListN.{length}
+use borrow.Author.Needs.{needs}
+use Rattle.known_edits.proofs.perform_all.Statement.{statement}
+use Rattle.known_edits.proofs.perform_all.Tie as tie
+
+abbrev Inv-loop : tie.InvT-loop
+Inv-loop outline₀ store₀ runs₀ rows₀ sizes₀ name over last ring path c₀ k₀ outline store runs rows sizes c k =
+    (length outline ≡ length outline₀) × (length store ≡ length store₀) × (length runs ≡ length runs₀) × (length rows ≡ allRows) × (length sizes ≡ manyRows)
+
+abbrev μ-loop : tie.MeasureT-loop
+μ-loop outline₀ store₀ runs₀ rows₀ sizes₀ name over last ring path c₀ k₀ outline store runs rows sizes c k =
+    last - k
+
+new-requires : tie.Need-new-requires Inv-loop μ-loop
+new-requires c κs = search needs
+
+loop-holds : tie.Need-loop-holds Inv-loop μ-loop
+loop-holds c = search needs
+
+edit-at-requires : tie.Need-edit-at-requires Inv-loop μ-loop
+edit-at-requires c κs = search needs
+
+perform-requires : tie.Need-perform-requires Inv-loop μ-loop
+perform-requires c κs = search needs
+
+counted-requires : tie.Need-counted-requires Inv-loop μ-loop
+counted-requires c κs = search needs
+
+add-k : tie.Need-add-k Inv-loop μ-loop
+add-k c = search (needs, c .before .before .before .before .before .before .before .before .before .before .before .before .before .before .before .loop-test, c .before .before .before .before .before .before .before .before .before .before .before .before .before .before .before .before .before .before .before .before .before .fits)
+
+loop-less : tie.Need-loop-less Inv-loop μ-loop
+loop-less c = search (needs, c .before .before .before .before .before .before .before .before .before .before .before .before .before .before .before .loop-test)
+
+loop-again : tie.Need-loop-again Inv-loop μ-loop
+loop-again c = search (needs, c .before .before .before .before .before .before .before .before .perform .kept, c .before .before .before .before .before .before .before .before .before .before .before .before .before .before .before .before .loop)
+
+same-length : tie.Need-same-length Inv-loop μ-loop
+same-length c = search needs
+
+same-length-2 : tie.Need-same-length-2 Inv-loop μ-loop
+same-length-2 c = search needs
+
+same-length-3 : tie.Need-same-length-3 Inv-loop μ-loop
+same-length-3 c = search needs
+
+same-length-4 : tie.Need-same-length-4 Inv-loop μ-loop
+same-length-4 c = search needs
+
+same-length-5 : tie.Need-same-length-5 Inv-loop μ-loop
+same-length-5 c = search needs
+
+returns : tie.Need-returns Inv-loop μ-loop
+returns c = search needs
+
+pub perform-all-spec : {M : Type 1} → statement M
+perform-all-spec =
+    tie.close
+    (tie.spec
+    Inv-loop
+    μ-loop
+    new-requires
+    loop-holds
+    edit-at-requires
+    perform-requires
+    counted-requires
+    add-k
+    loop-less
+    loop-again
+    same-length
+    same-length-2
+    same-length-3
+    same-length-4
+    same-length-5
+    returns)
