@@ -22,9 +22,8 @@ use Rattle.register.proofs.Verdicts.{accepted}
 use Rattle.room.specs.Runs.{verticesOf}
 use Rattle.judging.specs.declared.Changed.the-variants.{Done}
 use Rattle.judging.specs.Splitting.{pieceOne, pieceTwo, lowestUnused, splitTests}
-use Rattle.changes.specs.Afterwards.{split}
+use Rattle.changes.specs.Afterwards.{split, merge}
 use Rattle.judging.specs.Merging.{merged, mergeTests}
-use Rattle.changes.specs.Afterwards.{merge}
 use Rattle.changes.specs.Calls.{ChangedBy, SplitBy, MergeBy}
 use Rattle.changes.proofs.Outcomes.{accepting}
 

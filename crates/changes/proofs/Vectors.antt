@@ -17,9 +17,8 @@ use Rattle.register.specs.Sorting.{onBorder, windsAbout, belongsTo}
 use Rattle.register.specs.Founding.{founded}
 use Rattle.room.specs.Runs.{run, verticesOf}
 use Rattle.judging.specs.Splitting.{lowestUnused, vertexCount, splitTests}
-use Rattle.changes.specs.Afterwards.{split}
+use Rattle.changes.specs.Afterwards.{split, merge}
 use Rattle.judging.specs.Merging.{matches, mergeTests}
-use Rattle.changes.specs.Afterwards.{merge}
 
 -- ---- S split from 0 to 1 with path (2,9)
 

@@ -21,8 +21,7 @@ use Rattle.register.specs.Sorting.{inUse}
 use Rattle.register.specs.Founding.{founded}
 use Rattle.room.specs.Runs.{verticesOf}
 use Rattle.judging.specs.Splitting.{lowestUnused}
-use Rattle.changes.specs.Afterwards.{split}
-use Rattle.changes.specs.Afterwards.{merge}
+use Rattle.changes.specs.Afterwards.{split, merge}
 use Rattle.judging.proofs.Sums.{split-sum, merge-sum}
 use Rattle.history.specs.Histories.{Call, founding, splitting, merging, reporting, empty, judged, made, after}
 use Rattle.history.specs.Adding.{sumOver, slotSum}

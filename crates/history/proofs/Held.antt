@@ -17,9 +17,8 @@ use Rattle.register.specs.Sorting.{assigned, assignTests}
 use Rattle.register.specs.Founding.{foundTests, founded}
 use Rattle.register.specs.Calls.{Lists, formed, means, Leaves, verdictOf}
 use Rattle.judging.specs.Splitting.{splitTests}
-use Rattle.changes.specs.Afterwards.{split}
+use Rattle.changes.specs.Afterwards.{split, merge}
 use Rattle.judging.specs.Merging.{mergeTests}
-use Rattle.changes.specs.Afterwards.{merge}
 use Rattle.history.specs.Histories.{empty, judged, made, taken, step, after}
 use Rattle.history.specs.Adding.{sumOver, slotSum, slotWinding, ClearOf, SaidOne}
 use Rattle.history.specs.Limits.{Within}

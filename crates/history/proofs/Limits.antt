@@ -27,9 +27,8 @@ use Rattle.room.specs.Writing.{numbersOf}
 use Rattle.room.proofs.Parts.{sum-but-one}
 use Rattle.room.proofs.Written.{run-length, vertices-numbers, numbers-vertices}
 use Rattle.judging.specs.Splitting.{pieceOne, pieceTwo, lowestUnused, vertexCount}
-use Rattle.changes.specs.Afterwards.{split}
+use Rattle.changes.specs.Afterwards.{split, merge}
 use Rattle.judging.specs.Merging.{merged}
-use Rattle.changes.specs.Afterwards.{merge}
 use Rattle.changes.proofs.Grids.{run-on-grid, reverse-on-grid, both-on-grid}
 use Rattle.judging.proofs.Judged.{vertices-half}
 use Rattle.judging.proofs.Matched.{merged-length}

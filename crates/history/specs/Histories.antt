@@ -10,9 +10,8 @@ use Rattle.register.specs.Verdict.{Verdict, accept, refuse, verdict}
 use Rattle.register.specs.Founding.{foundTests, founded}
 use Rattle.register.specs.Sorting.{assignTests}
 use Rattle.judging.specs.Splitting.{splitTests}
-use Rattle.changes.specs.Afterwards.{split}
+use Rattle.changes.specs.Afterwards.{split, merge}
 use Rattle.judging.specs.Merging.{mergeTests}
-use Rattle.changes.specs.Afterwards.{merge}
 
 -- a call, with all that its caller hands over
 pub data Call : Type 0 where
