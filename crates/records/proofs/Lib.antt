@@ -1,0 +1,4 @@
+pub mod Reading
+pub mod Fronts
+pub mod RoundTrip
+pub mod Unique

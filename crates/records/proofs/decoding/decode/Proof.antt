@@ -1,0 +1,120 @@
+-- `records::decoding::decode` asks for the mark, then goes by the kind byte. Assumes nothing.
+use mathlib.Core.Path.{_≡_, refl, sym, ap, _∙_}
+use Prim.Native.Nat.{ℕ}
+use mathlib.Core.Bool.{_&&_}
+use mathlib.Core.List.{List}
+use lib.Dec.{eqb}
+use borrow.Author.Tests.{not-true, not-false}
+use Rattle.records.specs.declared.Front.the-variants.{More, Broken}
+use Rattle.records.specs.Bytes.{field}
+use Rattle.records.specs.Layout.{more, broken, byKind, front}
+use Rattle.records.proofs.Fronts.{leaves, says, front-short, front-unmarked, front-marked, unknown-kind}
+use borrow.Author.Needs.{needs}
+use Rattle.records.proofs.decoding.decode.Statement.{statement}
+use Rattle.records.proofs.decoding.decode.Tie as tie
+
+nothing-requires : tie.Need-nothing-requires
+nothing-requires c κs = search needs
+
+abbrev start : tie.After-one3 → tie.Start
+start c = c .before .before .before .before .before
+
+-- the mark as the layout has it
+marked : (c : tie.After-one3) → (eqb (c .before .one2 .result) 79 && eqb (c .one3 .result) 71) ≡ (eqb (field (start c .args .bytes .now) 0 1) 79 && eqb (field (start c .args .bytes .now) 1 1) 71)
+marked c = λ t. eqb (c .before .one2 .ensures .0 t) 79 && eqb (c .one3 .ensures .0 t) 71
+
+abbrev lent : tie.Else2 → List ℕ
+lent c = start (c .before) .args .bytes .now
+
+-- behind the mark, the kind decides
+kinded : (c : tie.Else2) → front (lent c) ≡ byKind (c .before .before .before .one .result) (lent c)
+kinded c =
+    let first = c .before .before .before in
+    front-marked (lent c) (first .before .if1 .left) (sym (marked (c .before)) ∙ not-false _ (c .if2 .left))
+    ∙ ap (λ k. byKind k (lent c)) (sym (first .one .ensures .0))
+
+returns : tie.Need-returns
+returns c =
+    let s = c .before .before .before in
+    says _ more _ _ _ (sym (front-short (s .args .bytes .now) (c .before .if1 .taken))) (leaves (c .nothing .result) More more (s .args .to .now) (c .nothing .ensures) refl refl refl)
+
+one-requires : tie.Need-one-requires
+one-requires c κs = search needs
+
+one-requires-2 : tie.Need-one-requires-2
+one-requires-2 c κs = search needs
+
+one-requires-3 : tie.Need-one-requires-3
+one-requires-3 c κs = search needs
+
+nothing-requires-2 : tie.Need-nothing-requires-2
+nothing-requires-2 c κs = search needs
+
+returns-2 : tie.Need-returns-2
+returns-2 c =
+    let marks = c .before .before in
+    let s = start marks in
+    says _ broken _ _ _ (sym (front-unmarked (s .args .bytes .now) (marks .before .before .before .if1 .left) (sym (marked marks) ∙ not-true _ (c .before .if2 .taken)))) (leaves (c .nothing2 .result) Broken broken (s .args .to .now) (c .nothing2 .ensures) refl refl refl)
+
+outline-requires : tie.Need-outline-requires
+outline-requires c κs = search needs
+
+split-requires : tie.Need-split-requires
+split-requires c κs = search needs
+
+merge-requires : tie.Need-merge-requires
+merge-requires c κs = search needs
+
+report-requires : tie.Need-report-requires
+report-requires c κs = search needs
+
+nothing-requires-3 : tie.Need-nothing-requires-3
+nothing-requires-3 c κs = search needs
+
+same-length : tie.Need-same-length
+same-length c = search needs
+
+returns-3 : tie.Need-returns-3
+returns-3 c = let keys = c .before .before .before in says _ _ _ _ _ (sym (kinded (keys .before) ∙ ap (λ k. byKind k (lent (keys .before))) (keys .match .keys1))) (c .before .outline .ensures)
+
+same-length-2 : tie.Need-same-length-2
+same-length-2 c = search needs
+
+returns-4 : tie.Need-returns-4
+returns-4 c = let keys = c .before .before .before in says _ _ _ _ _ (sym (kinded (keys .before) ∙ ap (λ k. byKind k (lent (keys .before))) (keys .match .keys2))) (c .before .split .ensures)
+
+returns-5 : tie.Need-returns-5
+returns-5 c = let keys = c .before in says _ _ _ _ _ (sym (kinded (keys .before) ∙ ap (λ k. byKind k (lent (keys .before))) (keys .match .keys3))) (c .merge .ensures _)
+
+returns-6 : tie.Need-returns-6
+returns-6 c = let keys = c .before in says _ _ _ _ _ (sym (kinded (keys .before) ∙ ap (λ k. byKind k (lent (keys .before))) (keys .match .keys4))) (c .report .ensures _)
+
+returns-7 : tie.Need-returns-7
+returns-7 c =
+    let none = c .before .match .rest in
+    let is = kinded (c .before .before) ∙ unknown-kind (lent (c .before .before)) _ (none .0 .0 .0 .1) (none .0 .0 .1) (none .0 .1) (none .1) in
+    says _ broken _ _ _ (sym is) (leaves (c .nothing3 .result) Broken broken _ (c .nothing3 .ensures) refl refl refl)
+
+pub decode-spec : {M : Type 1} → statement M
+decode-spec =
+    tie.close
+    (tie.spec
+    nothing-requires
+    returns
+    one-requires
+    one-requires-2
+    one-requires-3
+    nothing-requires-2
+    returns-2
+    outline-requires
+    split-requires
+    merge-requires
+    report-requires
+    nothing-requires-3
+    same-length
+    returns-3
+    same-length-2
+    returns-4
+    returns-5
+    returns-6
+    returns-7)

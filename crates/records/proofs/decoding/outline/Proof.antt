@@ -1,0 +1,89 @@
+-- `records::decoding::outline` asks in the order of the layout. Assumes nothing.
+use Prim.Native.Nat.{_+_, _*_}
+use native.Mathlib.Omega.{arith}
+use mathlib.Core.Path.{refl, sym, _∙_}
+use Rattle.records.specs.declared.Front.the-variants.{More, Broken}
+use Rattle.records.specs.Bytes.{field}
+use Rattle.records.specs.Layout.{more, broken, outlineFront}
+use Rattle.records.proofs.Fronts.{leaves, says, short, enough, announced-many, announced-few, outline-whole}
+use borrow.Author.Needs.{needs}
+use Rattle.records.proofs.decoding.outline.Statement.{statement}
+use Rattle.records.proofs.decoding.outline.Tie as tie
+
+nothing-requires : tie.Need-nothing-requires
+nothing-requires c κs = search needs
+
+returns : tie.Need-returns
+returns c =
+    let s = c .before .before .before in
+    let bytes = s .args .bytes .now in
+    says _ more (outlineFront bytes) _ _ (sym (short bytes 5 _ (c .before .if1 .taken))) (leaves (c .nothing .result) More more (s .args .to .now) (c .nothing .ensures) refl refl refl)
+
+two-requires : tie.Need-two-requires
+two-requires c κs = search needs
+
+nothing-requires-2 : tie.Need-nothing-requires-2
+nothing-requires-2 c κs = search needs
+
+returns-2 : tie.Need-returns-2
+returns-2 c =
+    let many = c .before .before in
+    let s = many .before .before .before in
+    let bytes = s .args .bytes .now in
+    let is = enough bytes 5 _ (many .before .if1 .left) ∙ announced-many (field bytes 3 2) _ (omega (arith, many .two .ensures .0, c .before .if2 .taken)) in
+    says _ broken (outlineFront bytes) _ _ (sym is) (leaves (c .nothing2 .result) Broken broken (s .args .to .now) (c .nothing2 .ensures) refl refl refl)
+
+mul-taken : tie.Need-mul-taken
+mul-taken c = search needs
+
+add-taken : tie.Need-add-taken
+add-taken c = search needs
+
+nothing-requires-3 : tie.Need-nothing-requires-3
+nothing-requires-3 c κs = search needs
+
+returns-3 : tie.Need-returns-3
+returns-3 c =
+    let few = c .before .before in
+    let many = few .before in
+    let s = many .before .before .before in
+    let bytes = s .args .bytes .now in
+    let n = many .two .ensures .0 in
+    let is = enough bytes 5 _ (many .before .if1 .left) ∙ announced-few (field bytes 3 2) _ (omega (arith, n, few .if2 .left)) ∙ short bytes (5 + 8 * field bytes 3 2) _ (omega (arith, n, c .before .if3 .taken)) in
+    says _ more (outlineFront bytes) _ _ (sym is) (leaves (c .nothing3 .result) More more (s .args .to .now) (c .nothing3 .ensures) refl refl refl)
+
+mul-signed-fields : tie.Need-mul-signed-fields
+mul-signed-fields c = search needs
+
+signed-fields-requires : tie.Need-signed-fields-requires
+signed-fields-requires c κs = search needs
+
+same-length : tie.Need-same-length
+same-length c = search needs
+
+returns-4 : tie.Need-returns-4
+returns-4 c =
+    let done = c .before in
+    let room = done .before .before in
+    let few = room .before in
+    let many = few .before in
+    let s = many .before .before .before in
+    outline-whole (s .args .bytes .now) (s .args .to .now) _ (many .two .result) (5 + 8 * many .two .result) (many .two .ensures .0) refl (many .before .if1 .left) (few .if2 .left) (room .if3 .left) (done .signed-fields .ensures)
+
+pub outline-spec : {M : Type 1} → statement M
+outline-spec =
+    tie.close
+    (tie.spec
+    nothing-requires
+    returns
+    two-requires
+    nothing-requires-2
+    returns-2
+    mul-taken
+    add-taken
+    nothing-requires-3
+    returns-3
+    mul-signed-fields
+    signed-fields-requires
+    same-length
+    returns-4)

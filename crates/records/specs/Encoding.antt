@@ -1,0 +1,50 @@
+-- Document 01, "Record stream": the bytes of a record, put in front of others. Assumes nothing.
+use Prim.Native.Nat.{ℕ, zero, suc, _-_, _/_, _%_, _≤_, _<_}
+use mathlib.Core.Path.{_≡_}
+use mathlib.Core.List.{List, [], _∷_}
+use lib.IntN.{ℤ, pos, negsuc}
+use lib.ListN.{length}
+use Rattle.history.specs.Histories.{Call, founding, splitting, merging, reporting}
+use Rattle.records.specs.Layout.{firstMark, secondMark, mostAnnounced}
+
+-- a number in so many bytes, the least first
+unfoldable pub inFront : ℕ → ℕ → List ℕ → List ℕ
+inFront zero n rest = rest
+inFront (suc w) n rest = n % 256 ∷ inFront w (n / 256) rest
+
+-- the 32 bits of a signed number
+abbrev pub bits : ℤ → ℕ
+bits (pos n) = n
+bits (negsuc n) = 4294967295 - n
+
+unfoldable pub allInFront : List ℤ → List ℕ → List ℕ
+allInFront [] rest = rest
+allInFront (x ∷ xs) rest = inFront 4 (bits x) (allInFront xs rest)
+
+unfoldable pub encode : Call → List ℕ → List ℕ
+encode (founding xs) rest = firstMark ∷ secondMark ∷ 1 ∷ inFront 2 (length xs / 2) (allInFront xs rest)
+encode (splitting d i j path) rest = firstMark ∷ secondMark ∷ 2 ∷ inFront 1 d (inFront 2 i (inFront 2 j (inFront 2 (length path / 2) (allInFront path rest))))
+encode (merging A a B b k) rest = firstMark ∷ secondMark ∷ 3 ∷ inFront 1 A (inFront 2 a (inFront 1 B (inFront 2 b (inFront 2 k rest))))
+encode (reporting r x y) rest = firstMark ∷ secondMark ∷ 4 ∷ inFront 4 r (inFront 4 (bits x) (inFront 4 (bits y) rest))
+
+-- the number fits in 32 signed bits
+abbrev pub Fits : ℤ → Type 0
+Fits (pos n) = n < 2147483648
+Fits (negsuc n) = n < 2147483648
+
+abbrev pub AllFit : List ℤ → Type 0
+AllFit [] = Unit
+AllFit (x ∷ xs) = Fits x × AllFit xs
+
+-- a list of pairs that a record may announce
+pub record Pairs (xs : List ℤ) : Type 0 where
+  pub even : length xs % 2 ≡ 0
+  pub most : length xs / 2 ≤ mostAnnounced
+  pub fit : AllFit xs
+
+-- what a record can hold
+abbrev pub Encodable : Call → Type 0
+Encodable (founding xs) = Pairs xs
+Encodable (splitting d i j path) = (d < 256) × (i < 65536) × (j < 65536) × Pairs path
+Encodable (merging A a B b k) = (A < 256) × (a < 65536) × (B < 256) × (b < 65536) × (k < 65536)
+Encodable (reporting r x y) = (r < 4294967296) × Fits x × Fits y

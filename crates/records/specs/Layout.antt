@@ -1,0 +1,68 @@
+-- Document 01, "Record stream": what stands at the front of a stream's bytes. Assumes nothing.
+use Prim.Native.Nat.{ℕ, _+_, _*_}
+use mathlib.Core.Bool.{not, _&&_}
+use mathlib.Core.List.{List}
+use lib.Dec.{eqb, ltb}
+use lib.ListN.{length}
+use Rattle.ring.specs.Grid.{pick}
+use Rattle.history.specs.Histories.{Call, founding, splitting, merging, reporting}
+use Rattle.records.specs.Bytes.{field, signed, signedFields}
+
+-- a record and how many bytes it has; the beginning of one, so that more bytes are needed; or a broken one, refusal 13
+pub data Front : Type 0 where
+  whole : Call → ℕ → Front
+  more : Front
+  broken : Front
+
+-- the mark 4F 47 in hex, and the most vertices or points that a record may announce
+abbrev pub firstMark : ℕ
+firstMark = 79
+
+abbrev pub secondMark : ℕ
+secondMark = 71
+
+abbrev pub mostAnnounced : ℕ
+mostAnnounced = 2048
+
+-- more bytes are needed until there are so many
+abbrev pub from : List ℕ → ℕ → Front → Front
+from bytes n f = pick (ltb (length bytes) n) more f
+
+-- a record of so many bytes
+abbrev pub upTo : List ℕ → ℕ → Call → Front
+upTo bytes n c = from bytes n (whole c n)
+
+-- kind 1, outline: n (16 bits), n pairs of signed 32-bit x, y
+abbrev pub outlineFront : List ℕ → Front
+outlineFront bytes = from bytes 5 (pick (ltb mostAnnounced n) broken (upTo bytes (5 + 8 * n) (founding (signedFields bytes 5 (2 * n)))))
+  where
+    n : ℕ
+    n = field bytes 3 2
+
+-- kind 2, split: d (8), i, j, k (16 each), k pairs
+abbrev pub splitFront : List ℕ → Front
+splitFront bytes =
+    from bytes 10 (pick (ltb mostAnnounced k) broken (upTo bytes (10 + 8 * k) (splitting (field bytes 3 1) (field bytes 4 2) (field bytes 6 2) (signedFields bytes 10 (2 * k)))))
+  where
+    k : ℕ
+    k = field bytes 8 2
+
+-- kind 3, merge: A (8), a (16), B (8), b (16), k (16)
+abbrev pub mergeFront : List ℕ → Front
+mergeFront bytes = upTo bytes 11 (merging (field bytes 3 1) (field bytes 4 2) (field bytes 6 1) (field bytes 7 2) (field bytes 9 2))
+
+-- kind 4, report: r (32), x, y (signed 32)
+abbrev pub reportFront : List ℕ → Front
+reportFront bytes = upTo bytes 15 (reporting (field bytes 3 4) (signed (field bytes 7 4)) (signed (field bytes 11 4)))
+
+-- by the kind byte; kinds 5 to 7 are unknown until document 02's requests bring them
+abbrev pub byKind : ℕ → List ℕ → Front
+byKind kind bytes =
+    pick (eqb kind 1) (outlineFront bytes)
+    (pick (eqb kind 2) (splitFront bytes)
+    (pick (eqb kind 3) (mergeFront bytes)
+    (pick (eqb kind 4) (reportFront bytes) broken)))
+
+-- the mark and the kind byte come first
+unfoldable pub front : List ℕ → Front
+front bytes = from bytes 3 (pick (not (eqb (field bytes 0 1) firstMark && eqb (field bytes 1 1) secondMark)) broken (byKind (field bytes 2 1) bytes))

@@ -1,0 +1,139 @@
+// Decoding the record at the front of a stream's bytes, by its kind. The places of fields are counted from the record's first byte, as the
+// layout lists them. Kinds 5 to 7 are unknown until document 02's requests bring them.
+use crate::Decoded;
+use crate::Front;
+use crate::Sighting;
+use crate::fields;
+ghost use mathlib.Core.Path.{_≡_};
+ghost use mathlib.Core.List.{List};
+ghost use lib.IntN.{ℤ};
+ghost use lib.ListN.{length};
+ghost use Rattle.records.specs.Layout.{outlineFront, splitFront, mergeFront, reportFront, front};
+ghost use Rattle.records.specs.Decoding.{Decodes};
+
+// The mark 4F 47.
+const FIRST_MARK: usize = 79;
+
+const SECOND_MARK: usize = 71;
+
+// How many bytes stand before the fields, and before the pairs of an outline and of a split; how many a pair, a merge and a report have.
+const HEAD: usize = 3;
+
+const OUTLINE_HEAD: usize = 5;
+
+const SPLIT_HEAD: usize = 10;
+
+const PAIR: usize = 8;
+
+const MERGE: usize = 11;
+
+const REPORT: usize = 15;
+
+// The most vertices or points that a record may announce.
+const MOST: usize = 2048;
+
+fn nothing(front: Front) -> Decoded
+    ensures { λ r. ⌜ (r .front ≡ front) × (r .taken ≡ 0) ⌝ }
+{
+    Decoded { front, taken: 0 }
+}
+
+fn outline(bytes: &[u8], to: &mut [i32]) -> Decoded
+    requires { ⌜ length (now to) ≡ 4096 ⌝ }
+    ensures { λ r. ⌜ Decodes r (outlineFront (now (bytes .entry))) (now (to .entry)) (now (to .exit)) ⌝ }
+{
+    if bytes.len() < OUTLINE_HEAD {
+        return nothing(Front::More);
+    }
+    let n = fields::two(bytes, HEAD);
+    if MOST < n {
+        return nothing(Front::Broken);
+    }
+    let taken = OUTLINE_HEAD + PAIR * n;
+    if bytes.len() < taken {
+        return nothing(Front::More);
+    }
+    fields::signed_fields(bytes, OUTLINE_HEAD, 2 * n, to);
+    Decoded {
+        front: Front::Outline(n),
+        taken,
+    }
+}
+
+fn split(bytes: &[u8], to: &mut [i32]) -> Decoded
+    requires { ⌜ length (now to) ≡ 4096 ⌝ }
+    ensures { λ r. ⌜ Decodes r (splitFront (now (bytes .entry))) (now (to .entry)) (now (to .exit)) ⌝ }
+{
+    if bytes.len() < SPLIT_HEAD {
+        return nothing(Front::More);
+    }
+    let k = fields::two(bytes, 8);
+    if MOST < k {
+        return nothing(Front::Broken);
+    }
+    let taken = SPLIT_HEAD + PAIR * k;
+    if bytes.len() < taken {
+        return nothing(Front::More);
+    }
+    let d = fields::one(bytes, HEAD);
+    let i = fields::two(bytes, 4);
+    let j = fields::two(bytes, 6);
+    fields::signed_fields(bytes, SPLIT_HEAD, 2 * k, to);
+    Decoded {
+        front: Front::Split(d, i, j, k),
+        taken,
+    }
+}
+
+fn merge(bytes: &[u8]) -> Decoded
+    ensures { λ r. ⌜ ((to : List ℤ) → Decodes r (mergeFront (now (bytes .entry))) to to) ⌝ }
+{
+    if bytes.len() < MERGE {
+        return nothing(Front::More);
+    }
+    let kept = fields::one(bytes, HEAD);
+    let a = fields::two(bytes, 4);
+    let gone = fields::one(bytes, 6);
+    let b = fields::two(bytes, 7);
+    let k = fields::two(bytes, 9);
+    Decoded {
+        front: Front::Merge(kept, a, gone, b, k),
+        taken: MERGE,
+    }
+}
+
+fn report(bytes: &[u8]) -> Decoded
+    ensures { λ r. ⌜ ((to : List ℤ) → Decodes r (reportFront (now (bytes .entry))) to to) ⌝ }
+{
+    if bytes.len() < REPORT {
+        return nothing(Front::More);
+    }
+    let number = fields::four(bytes, HEAD) as u32;
+    let x = fields::signed(fields::four(bytes, 7));
+    let y = fields::signed(fields::four(bytes, 11));
+    Decoded {
+        front: Front::Report(Sighting { number, x, y }),
+        taken: REPORT,
+    }
+}
+
+// What stands at the front of the bytes.
+pub fn decode(bytes: &[u8], to: &mut [i32]) -> Decoded
+    requires { ⌜ length (now to) ≡ 4096 ⌝ }
+    ensures { λ r. ⌜ Decodes r (front (now (bytes .entry))) (now (to .entry)) (now (to .exit)) ⌝ }
+{
+    if bytes.len() < HEAD {
+        return nothing(Front::More);
+    }
+    let kind = fields::one(bytes, 2);
+    if !((fields::one(bytes, 0) == FIRST_MARK) & (fields::one(bytes, 1) == SECOND_MARK)) {
+        return nothing(Front::Broken);
+    }
+    match kind {
+        1 => outline(bytes, to),
+        2 => split(bytes, to),
+        3 => merge(bytes),
+        4 => report(bytes),
+        _ => nothing(Front::Broken),
+    }
+}
