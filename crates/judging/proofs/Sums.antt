@@ -4,13 +4,15 @@ use Prim.Native.Nat.{ℕ, zero, suc, _+_, _-_, _%_, _≤_, _<_}
 use native.Mathlib.Decide.{decLt}
 use native.Mathlib.Nat.{mod-eq-of-lt, mod-eq-sub-mod, add-mod-left}
 use native.Mathlib.Omega.{arith}
-use mathlib.Core.Path.{_≡_, refl, sym, ap, _∙_}
-use mathlib.Core.Bool.{Bool, true}
+use mathlib.Core.Path.{_≡_, refl, sym, ap, subst, _∙_}
+use mathlib.Core.Bool.{true}
 use mathlib.Core.List.{List, _∷_, _++_, reverse}
 use mathlib.Core.Logic.{_⊎_, inl, inr}
-use lib.IntN.{ℤ, pos, negsuc, negℤ, _+ℤ_, _-ℤ_, +ℤ-assoc, +ℤ-comm, +ℤ-idl, +ℤ-invl, negℤ-+ℤ, +ℤ-negℤ-cancel}
+use lib.Dec.{T}
+use lib.IntN.{ℤ, pos, negℤ, _+ℤ_, _-ℤ_, +ℤ-assoc, +ℤ-comm, +ℤ-idl, +ℤ-invl, negℤ-+ℤ, +ℤ-negℤ-cancel}
 use lib.ListN.{length, getD}
-use borrow.Author.Tests.{eqb-true}
+use Rattle.exact.specs.Sign.{eqZ}
+use Rattle.exact.proofs.Signs.{eqZ-eq}
 use Rattle.ring.specs.declared.Point.{Point}
 use Rattle.ring.specs.Grid.{point}
 use Rattle.ring.specs.Rings.{at, Weight, Antisymmetric, total, ringSum}
@@ -66,23 +68,12 @@ module _ (n i j : ℕ) (h : i < n) (k : j < n) (other : i ≡ j → ⊥) where
       say (inr e) (inl g) = omega (arith, e .1, g .1)
       say (inr e) (inr g) = omega (arith, e .0, g .0)
 
--- the test of one coordinate, as the test of two points on the y axis
-level : ℤ → ℤ → Bool
-level b d = same (point (pos 0) b) (point (pos 0) d)
-
-level-is : (b d : ℤ) → level b d ≡ true → b ≡ d
-unfolding level same
-level-is (pos b) (pos d) e = ap pos (eqb-true b d e)
-level-is (pos b) (negsuc d) e = cc
-level-is (negsuc b) (pos d) e = cc
-level-is (negsuc b) (negsuc d) e = ap negsuc (eqb-true b d e)
-
 pub same-is : (P Q : Point) → same P Q ≡ true → P ≡ Q
-unfolding level same
+unfolding same
 same-is P Q e =
-    let across = level-is (P .x) (Q .x) (both-left (level (P .x) (Q .x)) (level (P .y) (Q .y)) e) in
-    let up = level-is (P .y) (Q .y) (both-right (level (P .x) (Q .x)) (level (P .y) (Q .y)) e) in
-    λ t. point (across t) (up t)
+    let across = both-left (eqZ (P .x) (Q .x)) (eqZ (P .y) (Q .y)) e in
+    let up = both-right (eqZ (P .x) (Q .x)) (eqZ (P .y) (Q .y)) e in
+    λ t. point (eqZ-eq (P .x) (Q .x) (subst T (sym across) tt) t) (eqZ-eq (P .y) (Q .y) (subst T (sym up) tt) t)
 
 -- what is added and taken away again
 cancels : (a b w : ℤ) → (a +ℤ negℤ w) +ℤ (b +ℤ w) ≡ a +ℤ b

@@ -1,4 +1,4 @@
--- Rings as the store holds them, and what the routines that write them leave. No public promise cites it. Assumes nothing.
+-- Rings as the store holds them, and what the routines that write them leave. No call's promise cites it. Assumes nothing.
 use Prim.Native.Nat.{ℕ, _+_, _-_, _≤_, _<_}
 use mathlib.Core.Path.{_≡_}
 use mathlib.Core.List.{List, [], _∷_, _++_}

@@ -28,7 +28,7 @@ remove-requires-2 c κs =
     let l = out .remove .ensures in
     let inside = still-inside (a .store .now) (a .runs .now) (a .kept) (a .gone) p _ _ l in
     let all = first-total (a .store .now) (a .runs .now) (a .kept) (a .gone) p _ _ l in
-    (l .long-store, (l .long-runs, (p .second, (inside, omega (arith, all, p .most)))))
+    (l .long-store, (l .long-runs, (omega (arith, p .first, p .second), (omega (arith, inside), omega (arith, all, p .most)))))
 
 sub-add-two : tie.Need-sub-add-two
 sub-add-two c = search needs

@@ -48,7 +48,7 @@ returns c =
     let turn = met .before .before in
     let s = turn .before in
     let a = s .args in
-    match-fails (vertices (a .ring .now)) (a .a) (vertices (a .other .now)) (a .b) (a .m) (a .k) (length-vertices (a .other .now) (a .m) (s .pre .1 .0)) (turn .loop .t) (met .before .loop-test .taken) (sym (met .meets .ensures) ∙ not-true _ (c .if1 .taken))
+    match-fails (vertices (a .ring .now)) (a .a) (vertices (a .other .now)) (a .b) (a .m) (a .k) (length-vertices (a .other .now) (a .m) (s .pre .1 .0)) (turn .loop .t) (omega (arith, met .before .loop-test .taken)) (sym (met .meets .ensures) ∙ not-true _ (c .if1 .taken))
 
 add-t : tie.Need-add-t Inv-loop μ-loop
 add-t c = search needs
@@ -61,7 +61,7 @@ loop-again c =
     let met = c .before in
     let turn = met .before .before in
     let a = turn .before .args in
-    met-more (vertices (a .ring .now)) (a .a) (vertices (a .other .now)) (a .b) (a .m) (a .k) (turn .loop .t) (met .before .loop-test .taken) (sym (met .meets .ensures) ∙ not-false _ (c .if1 .left)) (turn .loop .inv)
+    met-more (vertices (a .ring .now)) (a .a) (vertices (a .other .now)) (a .b) (a .m) (a .k) (turn .loop .t) (omega (arith, met .before .loop-test .taken)) (sym (met .meets .ensures) ∙ not-false _ (c .if1 .left)) (turn .loop .inv)
 
 returns-2 : tie.Need-returns-2 Inv-loop μ-loop
 returns-2 c =

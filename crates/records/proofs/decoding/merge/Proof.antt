@@ -1,4 +1,5 @@
 -- `records::decoding::merge` reads its fields once they are all there. Assumes nothing.
+use native.Mathlib.Omega.{arith}
 use mathlib.Core.Path.{refl, sym}
 use Rattle.records.specs.declared.Front.the-variants.{More}
 use Rattle.records.specs.Layout.{more, mergeFront}
@@ -14,7 +15,7 @@ returns : tie.Need-returns
 returns c =
     let s = c .before .before .before in
     let bytes = s .args .bytes .now in
-    λ to. says _ more (mergeFront bytes) _ _ (sym (short bytes 11 _ (c .before .if1 .taken))) (leaves (c .nothing .result) More more to (c .nothing .ensures) refl refl refl)
+    λ to. says _ more (mergeFront bytes) _ _ (sym (short bytes 11 _ (omega (arith, c .before .if1 .taken)))) (leaves (c .nothing .result) More more to (c .nothing .ensures) refl refl refl)
 
 one-requires : tie.Need-one-requires
 one-requires c κs = search needs

@@ -1,4 +1,5 @@
 -- `records::decoding::report` reads its fields once they are all there. Assumes nothing.
+use native.Mathlib.Omega.{arith}
 use mathlib.Core.Path.{refl, sym, ap, _∙_}
 use mir.Syntax.{w32}
 use mir.Val.{SFits}
@@ -19,7 +20,7 @@ returns : tie.Need-returns
 returns c =
     let s = c .before .before .before in
     let bytes = s .args .bytes .now in
-    λ to. says _ more (reportFront bytes) _ _ (sym (short bytes 15 _ (c .before .if1 .taken))) (leaves (c .nothing .result) More more to (c .nothing .ensures) refl refl refl)
+    λ to. says _ more (reportFront bytes) _ _ (sym (short bytes 15 _ (omega (arith, c .before .if1 .taken)))) (leaves (c .nothing .result) More more to (c .nothing .ensures) refl refl refl)
 
 four-requires : tie.Need-four-requires
 four-requires c κs = search needs
