@@ -26,13 +26,13 @@ refusal-back CountFull = refl
 pub numberOf-injective : (r s : Refusal) → numberOf r ≡ numberOf s → r ≡ s
 numberOf-injective r s e = sym (refusal-back r) ∙ ap refusalOf e ∙ refusal-back s
 
-abbrev classOf : Belongs → Class
+abbrev pub classOf : Belongs → Class
 classOf (border d) = Border d
 classOf (one d) = One d
 classOf none = None
 classOf (several d n) = Several d n
 
-class-back : (c : Class) → classOf (belongs c) ≡ c
+pub class-back : (c : Class) → classOf (belongs c) ≡ c
 class-back (Border d) = refl
 class-back (One d) = refl
 class-back None = refl

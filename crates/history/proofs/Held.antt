@@ -29,7 +29,7 @@ use Rattle.history.proofs.Alone.{one-district}
 use Rattle.history.proofs.Limits.{within-limits}
 
 -- what a call leaves, from its verdict
-kept : (v w : Verdict) → v ≡ w → (g : Register) (before after : Lists) → formed before ≡ true → Leaves v g before after → (formed after ≡ true) × (means after ≡ taken w (means before) g)
+pub kept : (v w : Verdict) → v ≡ w → (g : Register) (before after : Lists) → formed before ≡ true → Leaves v g before after → (formed after ≡ true) × (means after ≡ taken w (means before) g)
 kept v w e g before after h l = subst (λ u. (formed after ≡ true) × (means after ≡ taken u (means before) g)) e (say v l)
   where
     say : (v : Verdict) → Leaves v g before after → (formed after ≡ true) × (means after ≡ taken v (means before) g)

@@ -118,8 +118,7 @@ fn report(bytes: &[u8]) -> Decoded
 }
 
 // What stands at the front of the bytes.
-pub fn decode(bytes: &[u8], to: &mut [i32]) -> Decoded
-    requires { ⌜ length (now to) ≡ 4096 ⌝ }
+pub fn decode(bytes: &[u8], to: &mut [i32; 4096]) -> Decoded
     ensures { λ r. ⌜ Decodes r (front (now (bytes .entry))) (now (to .entry)) (now (to .exit)) ⌝ }
 {
     if bytes.len() < HEAD {

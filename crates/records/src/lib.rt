@@ -1,4 +1,4 @@
-// The record stream: what stands at the front of its bytes. `decode` takes any bytes; coordinates are written to a list of the caller's.
+// The record stream: what stands at the front of its bytes. `decode` has no `requires`; coordinates are written to a list of the caller's.
 mod decoding;
 mod fields;
 

@@ -4,3 +4,4 @@ pub mod Parts
 pub mod Entering
 pub mod Leaving
 pub mod Additions
+pub mod Moving

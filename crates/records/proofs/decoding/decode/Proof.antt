@@ -71,17 +71,11 @@ report-requires c κs = search needs
 nothing-requires-3 : tie.Need-nothing-requires-3
 nothing-requires-3 c κs = search needs
 
-same-length : tie.Need-same-length
-same-length c = search needs
-
 returns-3 : tie.Need-returns-3
-returns-3 c = let keys = c .before .before .before in says _ _ _ _ _ (sym (kinded (keys .before) ∙ ap (λ k. byKind k (lent (keys .before))) (keys .match .keys1))) (c .before .outline .ensures)
-
-same-length-2 : tie.Need-same-length-2
-same-length-2 c = search needs
+returns-3 c = let keys = c .before .before in says _ _ _ _ _ (sym (kinded (keys .before) ∙ ap (λ k. byKind k (lent (keys .before))) (keys .match .keys1))) (c .outline .ensures)
 
 returns-4 : tie.Need-returns-4
-returns-4 c = let keys = c .before .before .before in says _ _ _ _ _ (sym (kinded (keys .before) ∙ ap (λ k. byKind k (lent (keys .before))) (keys .match .keys2))) (c .before .split .ensures)
+returns-4 c = let keys = c .before .before in says _ _ _ _ _ (sym (kinded (keys .before) ∙ ap (λ k. byKind k (lent (keys .before))) (keys .match .keys2))) (c .split .ensures)
 
 returns-5 : tie.Need-returns-5
 returns-5 c = let keys = c .before in says _ _ _ _ _ (sym (kinded (keys .before) ∙ ap (λ k. byKind k (lent (keys .before))) (keys .match .keys3))) (c .merge .ensures _)
@@ -111,9 +105,7 @@ decode-spec =
     merge-requires
     report-requires
     nothing-requires-3
-    same-length
     returns-3
-    same-length-2
     returns-4
     returns-5
     returns-6

@@ -1,0 +1,3 @@
+pub mod Replying
+pub mod Taking
+pub mod Unique

@@ -1,0 +1,39 @@
+-- `group::refilled` meets its contract. Assumes nothing.
+use native.Mathlib.Omega.{arith}
+use Prim.Native.Nat.{_-_}
+use mathlib.Core.Path.{refl, ap, _∙_}
+use lib.ListN.{take}
+use borrow.Author.Needs.{needs}
+use Rattle.group.proofs.Keeping.{moved-front}
+use Rattle.group.proofs.refilled.Statement.{statement}
+use Rattle.group.proofs.refilled.Tie as tie
+
+sub-left : tie.Need-sub-left
+sub-left c = search needs
+
+shift-requires : tie.Need-shift-requires
+shift-requires c κs = search needs
+
+read-behind-requires : tie.Need-read-behind-requires
+read-behind-requires c κs = search needs
+
+same-length : tie.Need-same-length
+same-length c = search needs
+
+returns : tie.Need-returns
+returns c =
+    let reads = c .before .before in
+    let shifts = reads .before .before .before .before in
+    let start = shifts .before .before .before .before .before in
+    let d = start .args .d in
+    let kept = start .pre in
+    record {
+      kept = record { taken = omega arith; there = search (needs, reads .read-behind .ensures .1) };
+      first = refl;
+      front = reads .read-behind .ensures .2 ∙ ap (take (d .end - d .at)) (shifts .shift .ensures) ∙ moved-front (d .end - d .at) (d .at) (start .args .input .now) (omega (arith, kept .taken, kept .there));
+      records = refl;
+    }
+
+pub refilled-spec : {M : Type 1} → statement M
+refilled-spec =
+    tie.close (tie.spec sub-left shift-requires read-behind-requires same-length returns)

@@ -1,0 +1,193 @@
+-- `group::turn` meets its contract: printing takes no more than the buffer holds. Assumes nothing.
+use native.Mathlib.Omega.{arith}
+use borrow.Author.Needs.{needs}
+use Rattle.group.specs.Held.{Held}
+use Rattle.group.proofs.Keeping.{Within, part-countable, printed-within}
+use Rattle.group.proofs.turn.Statement.{statement}
+use Rattle.group.proofs.turn.Tie as tie
+
+abbrev start : tie.After-print → tie.Start
+start called = called .before .before .before .before .before .before .before .before .before .before .before
+
+within : (called : tie.After-print) → Within (start called .args .d) (called .print .result)
+within called = let s = start called in printed-within (s .args .d) (s .args .input .now) _ _ _ (called .print .result) _ _ (s .pre) (called .print .ensures .0)
+
+sub-print : tie.Need-sub-print
+sub-print c = search needs
+
+part-print-start : tie.Need-part-print-start
+part-print-start c = search needs
+
+part-print-end : tie.Need-part-print-end
+part-print-end c = search needs
+
+print-requires : tie.Need-print-requires
+print-requires c κs = search needs
+
+add-written : tie.Need-add-written
+add-written c =
+    let taken = within (c .before .before .before .before .before .before .before .before) in
+    record { fits = omega (arith, taken .at, taken .small) }
+
+sub-written : tie.Need-sub-written
+sub-written c = search needs
+
+part-written-start : tie.Need-part-written-start
+part-written-start c = search needs
+
+part-written-end : tie.Need-part-written-end
+part-written-end c = search needs
+
+written-requires : tie.Need-written-requires
+written-requires c κs = search needs
+
+ended-requires : tie.Need-ended-requires
+ended-requires c κs = search needs
+
+same-length : tie.Need-same-length
+same-length c = search needs
+
+same-length-2 : tie.Need-same-length-2
+same-length-2 c = search needs
+
+same-length-3 : tie.Need-same-length-3
+same-length-3 c = search needs
+
+same-length-4 : tie.Need-same-length-4
+same-length-4 c = search needs
+
+same-length-5 : tie.Need-same-length-5
+same-length-5 c = search needs
+
+returns : tie.Need-returns
+returns c =
+    let called = c .before .before .before .before .before .before .before .before .before .before .before .before .before in
+    let held = start called .pre in
+    let taken = within called in
+    record { kept = record { taken = omega (arith, taken .at, c .ended .ensures .0, c .ended .ensures .1); there = omega (arith, held .kept .there, c .ended .ensures .1) }; form = called .print .ensures .0 .form; records = omega (arith, taken .records, c .ended .ensures .2) }
+
+enum-told : tie.Need-enum-told
+enum-told c = search needs
+
+enum-told-2 : tie.Need-enum-told-2
+enum-told-2 c = search needs
+
+refilled-requires : tie.Need-refilled-requires
+refilled-requires c κs =
+    let called = c .before .before .before .before .before .before .before .before .before .before .before .before .before .before .before in
+    record { taken = within called .at; there = start called .pre .kept .there }
+
+enum-told-3 : tie.Need-enum-told-3
+enum-told-3 c = search needs
+
+ended-requires-2 : tie.Need-ended-requires-2
+ended-requires-2 c κs = search needs
+
+same-length-6 : tie.Need-same-length-6
+same-length-6 c = search needs
+
+same-length-7 : tie.Need-same-length-7
+same-length-7 c = search needs
+
+same-length-8 : tie.Need-same-length-8
+same-length-8 c = search needs
+
+same-length-9 : tie.Need-same-length-9
+same-length-9 c = search needs
+
+same-length-10 : tie.Need-same-length-10
+same-length-10 c = search needs
+
+returns-2 : tie.Need-returns-2
+returns-2 c =
+    let called = c .before .before .before .before .before .before .before .before .before .before .before .before .before .before in
+    let held = start called .pre in
+    let taken = within called in
+    record { kept = record { taken = taken .at; there = held .kept .there }; form = called .print .ensures .0 .form; records = taken .records }
+
+same-length-11 : tie.Need-same-length-11
+same-length-11 c = search needs
+
+same-length-12 : tie.Need-same-length-12
+same-length-12 c = search needs
+
+same-length-13 : tie.Need-same-length-13
+same-length-13 c = search needs
+
+same-length-14 : tie.Need-same-length-14
+same-length-14 c = search needs
+
+same-length-15 : tie.Need-same-length-15
+same-length-15 c = search needs
+
+returns-3 : tie.Need-returns-3
+returns-3 c =
+    let called = c .before .before .before .before .before .before .before .before .before .before .before .before .before .before .before .before .before .before in
+    let taken = within called in
+    record { kept = c .before .before .refilled .ensures .kept; form = called .print .ensures .0 .form; records = omega (arith, taken .records, c .before .before .refilled .ensures .records) }
+
+same-length-16 : tie.Need-same-length-16
+same-length-16 c = search needs
+
+same-length-17 : tie.Need-same-length-17
+same-length-17 c = search needs
+
+same-length-18 : tie.Need-same-length-18
+same-length-18 c = search needs
+
+same-length-19 : tie.Need-same-length-19
+same-length-19 c = search needs
+
+same-length-20 : tie.Need-same-length-20
+same-length-20 c = search needs
+
+returns-4 : tie.Need-returns-4
+returns-4 c =
+    let called = c .before .before .before .before .before .before .before .before .before .before .before .before .before .before .before in
+    let held = start called .pre in
+    let taken = within called in
+    record { kept = record { taken = omega (arith, taken .at, c .ended2 .ensures .0, c .ended2 .ensures .1); there = omega (arith, held .kept .there, c .ended2 .ensures .1) }; form = called .print .ensures .0 .form; records = omega (arith, taken .records, c .ended2 .ensures .2) }
+
+pub turn-spec : {M : Type 1} → statement M
+turn-spec =
+    tie.close
+    (tie.spec
+    sub-print
+    part-print-start
+    part-print-end
+    print-requires
+    add-written
+    sub-written
+    part-written-start
+    part-written-end
+    written-requires
+    ended-requires
+    same-length
+    same-length-2
+    same-length-3
+    same-length-4
+    same-length-5
+    returns
+    enum-told
+    enum-told-2
+    refilled-requires
+    enum-told-3
+    ended-requires-2
+    same-length-6
+    same-length-7
+    same-length-8
+    same-length-9
+    same-length-10
+    returns-2
+    same-length-11
+    same-length-12
+    same-length-13
+    same-length-14
+    same-length-15
+    returns-3
+    same-length-16
+    same-length-17
+    same-length-18
+    same-length-19
+    same-length-20
+    returns-4)

@@ -1,0 +1,5 @@
+pub mod Laying
+pub mod Decimals
+pub mod Meaning
+pub mod Written
+pub mod Unique
