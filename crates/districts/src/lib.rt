@@ -15,6 +15,7 @@ ghost use Prim.Native.Nat.{_+_, _≤_};
 ghost use lib.ListN.{length};
 ghost use Rattle.districts.specs.WellFormed.{shaped as shapedLists, counted as countedRuns, total as totalOf, wellFormed};
 ghost use Rattle.districts.specs.Lists.{part};
+ghost use Rattle.districts.specs.Answers.{numberOf};
 ghost use Rattle.ring.specs.Grid.{someBeyond};
 
 // How long the three lists of a register are.
@@ -37,6 +38,20 @@ pub enum Refusal {
     NoRing,
     BeyondGrid,
     CountFull,
+}
+
+// Document 01's number of a refusal.
+pub fn refusal_number(r: Refusal) -> usize
+    ensures { λ n. ⌜ n ≡ numberOf r ⌝ }
+{
+    match r {
+        Refusal::NotWellFormed => 1,
+        Refusal::NoOutline => 2,
+        Refusal::OutlineThere => 3,
+        Refusal::NoRing => 4,
+        Refusal::BeyondGrid => 5,
+        Refusal::CountFull => 14,
+    }
 }
 
 // Where a report belongs, by the numbers of the districts.

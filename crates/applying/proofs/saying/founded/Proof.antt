@@ -13,14 +13,14 @@ enum-told c = search needs
 enum-known-f : tie.Need-enum-known-f
 enum-known-f c = search needs
 
-refusal-requires : tie.Need-refusal-requires
-refusal-requires c κs = search needs
+refusal-number-requires : tie.Need-refusal-number-requires
+refusal-number-requires c κs = search needs
 
 returns : tie.Need-returns
 returns c = search needs
 
 returns-2 : tie.Need-returns-2
-returns-2 c = ap refused (c .refusal .ensures) ∙ sym (ap (λ f. sayingOf (verdictOf f) ok) (c .before .before .f .given .1))
+returns-2 c = ap refused (c .refusal-number .ensures) ∙ sym (ap (λ f. sayingOf (verdictOf f) ok) (c .before .before .f .given .1))
 
 pub founded-spec : {M : Type 1} → statement M
-founded-spec = tie.close (tie.spec enum-told enum-known-f refusal-requires returns returns-2)
+founded-spec = tie.close (tie.spec enum-told enum-known-f refusal-number-requires returns returns-2)

@@ -1,0 +1,60 @@
+-- How an answer is told to other languages: a kind and two values. include/launchramp.h has the same. Assumes nothing.
+use Prim.Native.Nat.{ℕ, suc}
+use mathlib.Core.List.{List, [], _∷_}
+use mathlib.Core.Path.{_≡_}
+use lib.IntN.{ℤ, pos, negsuc}
+use Rattle.ring.specs.Locate.{Place, vertex, edge, off, refused}
+use Rattle.districts.specs.Answers as Answers
+use Rattle.districts.specs.Answers.{Belongs, border, one, none, several, Answer, report}
+use Rattle.register.specs.Verdict.{Verdict, accept, refuse}
+use Rattle.judging.specs.Answers as Changes
+
+pub record Code : Type 0 where
+  pub kind : ℕ
+  pub values : List ℕ
+
+abbrev pub code : ℕ → ℕ → ℕ → Code
+code k a b = record { kind = k; values = a ∷ b ∷ [] }
+
+-- a refusal, by document 01's number
+abbrev pub refusedCode : ℕ → Code
+refusedCode n = code 0 n 0
+
+-- done, with the number of the district that was made or kept; founding makes district 0
+abbrev pub doneCode : ℕ → Code
+doneCode d = code 1 d 0
+
+-- a winding number as its size, and 1 where it is negative
+abbrev pub offCode : ℤ → Code
+offCode (pos n) = code 4 n 0
+offCode (negsuc n) = code 4 (suc n) 1
+
+abbrev pub placeCode : Place → Code
+placeCode (vertex i) = code 2 i 0
+placeCode (edge i) = code 3 i 0
+placeCode (off w o) = offCode w
+placeCode (refused n) = refusedCode n
+
+abbrev pub verdictCode : Verdict → Code
+verdictCode accept = doneCode 0
+verdictCode (refuse n) = refusedCode n
+
+abbrev pub changeCode : Changes.Answer → Code
+changeCode (Changes.done d) = doneCode d
+changeCode (Changes.refused n) = refusedCode n
+
+abbrev pub classCode : Belongs → Code
+classCode (border d) = code 5 d 0
+classCode (one d) = code 6 d 0
+classCode none = code 7 0 0
+classCode (several d n) = code 8 d n
+
+-- the caller knows the report's number
+abbrev pub answerCode : Answer → Code
+answerCode (report r b) = classCode b
+answerCode (Answers.refused n) = refusedCode n
+
+-- the kind is answered, and the values stand in the lent list
+pub record Tells (r : ℕ) (lent : List ℕ) (c : Code) : Type 0 where
+  pub kind : r ≡ c .kind
+  pub values : lent ≡ c .values

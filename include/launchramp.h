@@ -1,0 +1,91 @@
+/* launchramp.h: the calls of target/staticlib/liblaunchramp.a (`rt staticlib launchramp`), for C and C++.
+ *
+ * A register is three lists that the caller keeps: an outline of 4,096 numbers, a store of 4,096 and runs of 129. Lists of zeros are an empty
+ * register. Rings, paths, outlines and the store hold x, y, x, y, ..; coordinates are whole millimetres.
+ * runs[0] is the outline's number of vertices (0: no outline); runs[1 + d] is where district d's ring begins in the store, counted in
+ * vertices, and runs[65 + d] how many vertices it has (0: the number is unused). Read them; only the calls should write them.
+ * Every call takes every input: lists of any length and content, any number. What document 01 refuses is answered LAUNCHRAMP_REFUSED, and a
+ * refused call changes no list and no count. A list may be of length 0; its pointer must not be null even then. Lists that one call is lent
+ * must not overlap where one of them is changed.
+ *
+ * An answer is its kind, which is returned, and two values, written to `values`; a value that is not named here is 0:
+ *
+ *   LAUNCHRAMP_REFUSED   document 01's number of the refusal
+ *   LAUNCHRAMP_DONE      the number of the district that was made (split), kept (merge) or founded (0)
+ *   LAUNCHRAMP_VERTEX    the index of the lowest vertex that is the point
+ *   LAUNCHRAMP_EDGE      the index of the lowest edge that holds the point
+ *   LAUNCHRAMP_OFF       the size of the winding number, and 1 where it is negative
+ *   LAUNCHRAMP_BORDER    the lowest district on whose ring the report is
+ *   LAUNCHRAMP_ONE       the district that alone holds the report
+ *   LAUNCHRAMP_NONE      (no district holds it)
+ *   LAUNCHRAMP_SEVERAL   the lowest of the districts that hold the report, and how many they are
+ */
+#ifndef LAUNCHRAMP_H
+#define LAUNCHRAMP_H
+
+#include <stdbool.h>
+#include <stddef.h>
+#include <stdint.h>
+
+#ifdef __cplusplus
+extern "C" {
+#endif
+
+#define LAUNCHRAMP_OUTLINE_LENGTH 4096
+#define LAUNCHRAMP_STORE_LENGTH 4096
+#define LAUNCHRAMP_RUNS_LENGTH 129
+
+/* A tally: 64 counts of One, one for each district number, then those of Border, None and Several. Zeros are a fresh tally. */
+#define LAUNCHRAMP_COUNTS 67
+#define LAUNCHRAMP_COUNT_BORDER 64
+#define LAUNCHRAMP_COUNT_NONE 65
+#define LAUNCHRAMP_COUNT_SEVERAL 66
+
+#define LAUNCHRAMP_VALUES 2
+
+enum {
+    LAUNCHRAMP_REFUSED = 0,
+    LAUNCHRAMP_DONE = 1,
+    LAUNCHRAMP_VERTEX = 2,
+    LAUNCHRAMP_EDGE = 3,
+    LAUNCHRAMP_OFF = 4,
+    LAUNCHRAMP_BORDER = 5,
+    LAUNCHRAMP_ONE = 6,
+    LAUNCHRAMP_NONE = 7,
+    LAUNCHRAMP_SEVERAL = 8
+};
+
+/* Where a point lies against one ring: VERTEX, EDGE, OFF; refusals 4, 5. */
+uint32_t launchramp_locate(const int32_t *ring, size_t ring_length, int32_t x, int32_t y, uint64_t *values);
+
+/* Whether the lists are a well-formed register; every other call asks this first and refuses by 1. */
+bool launchramp_well_formed(const int32_t *outline, size_t outline_length, const int32_t *store, size_t store_length,
+                            const uint32_t *runs, size_t runs_length);
+
+/* Stores the outline, and makes district 0 with the same ring: DONE; refusals 1, 3, 4, 5. */
+uint32_t launchramp_found(int32_t *outline, size_t outline_length, int32_t *store, size_t store_length, uint32_t *runs,
+                          size_t runs_length, const int32_t *ring, size_t ring_length, uint64_t *values);
+
+/* Splits district d from its vertex i to its vertex j along a path: DONE; refusals 1, 2, 4, 5, 6, 8, 9, 11, 12. */
+uint32_t launchramp_split(const int32_t *outline, size_t outline_length, int32_t *store, size_t store_length, uint32_t *runs,
+                          size_t runs_length, size_t d, size_t i, size_t j, const int32_t *path, size_t path_length,
+                          uint64_t *values);
+
+/* Merges district `gone`, at its vertex b, into district `kept`, at its vertex a, along k edges: DONE; refusals 1, 2, 6, 7, 8, 9, 10. */
+uint32_t launchramp_merge(const int32_t *outline, size_t outline_length, int32_t *store, size_t store_length, uint32_t *runs,
+                          size_t runs_length, size_t kept, size_t a, size_t gone, size_t b, size_t k, uint64_t *values);
+
+/* Sorts a report at a point: BORDER, ONE, NONE, SEVERAL; refusals 1, 2, 5. */
+uint32_t launchramp_assign(const int32_t *outline, size_t outline_length, const int32_t *store, size_t store_length,
+                           const uint32_t *runs, size_t runs_length, int32_t x, int32_t y, uint64_t *values);
+
+/* The same, and raises its count in a tally of LAUNCHRAMP_COUNTS counts: refusal 14 too, where the count is full. */
+uint32_t launchramp_assign_counted(const int32_t *outline, size_t outline_length, const int32_t *store, size_t store_length,
+                                   const uint32_t *runs, size_t runs_length, int32_t x, int32_t y, uint32_t *counts,
+                                   uint64_t *values);
+
+#ifdef __cplusplus
+}
+#endif
+
+#endif

@@ -1,0 +1,305 @@
+//! Sorting fault reports into districts, exactly: a safe wrapper of the proved library
+//! liblaunchramp.a, whose rules are those of document 01.
+//!
+//! Coordinates are whole millimetres, -1,000,000,000 to 1,000,000,000. Rings and paths are lists
+//! x, y, x, y, .. Every call takes every input; what the rules don't allow is answered by a
+//! [`Refusal`], and a refused call changes nothing.
+//!
+//! ```
+//! use launchramp::{Class, Refusal, Register, Tally};
+//!
+//! let mut register = Register::new();
+//! register.found(&[0, 0, 4, 0, 4, 4, 0, 4])?;
+//! let new = register.split(0, 0, 2, &[])?; // district 0, from its vertex 0 to its vertex 2, straight
+//! let mut tally = Tally::new();
+//! assert_eq!(register.assign_counted(3, 1, &mut tally)?, Class::One(0));
+//! assert_eq!(register.assign_counted(1, 3, &mut tally)?, Class::One(new));
+//! assert_eq!(tally.one(new), 1);
+//! # Ok::<(), Refusal>(())
+//! ```
+#![deny(unsafe_code)]
+
+#[allow(unsafe_code)]
+mod calls;
+mod refusal;
+
+use calls::Answer;
+pub use refusal::Refusal;
+
+/// District numbers go from 0 to 63.
+pub const NUMBERS: usize = 64;
+
+/// How long the three lists of a register are.
+pub const OUTLINE_LENGTH: usize = 4096;
+pub const STORE_LENGTH: usize = 4096;
+pub const RUNS_LENGTH: usize = 129;
+
+/// How many counts a tally has: one for each district number, then Border, None and Several.
+pub const COUNTS: usize = calls::COUNTS;
+const BORDER: usize = 64;
+const NONE: usize = 65;
+const SEVERAL: usize = 66;
+
+/// Where a point lies against a ring. Edge i goes from vertex i to the next, the last one to vertex 0.
+#[derive(Clone, Copy, Debug, PartialEq, Eq, Hash)]
+pub enum Place {
+    /// The lowest vertex that is the point.
+    Vertex(usize),
+    /// The lowest edge that holds the point, which is no vertex.
+    Edge(usize),
+    /// Not on the ring: how often the ring winds round the point. With x to the right and y up,
+    /// counterclockwise turns are positive.
+    Off(i32),
+}
+
+/// Where a report belongs, by the numbers of districts.
+#[derive(Clone, Copy, Debug, PartialEq, Eq, Hash)]
+pub enum Class {
+    /// On the ring of this district, the lowest such.
+    Border(usize),
+    /// Inside this district alone.
+    One(usize),
+    /// In no district.
+    None,
+    /// Inside more than one.
+    Several { lowest: usize, count: usize },
+}
+
+/// Where the point (x, y) lies against one closed ring. Refusals: NoRing, BeyondGrid.
+pub fn locate(ring: &[i32], x: i32, y: i32) -> Result<Place, Refusal> {
+    place(calls::locate(ring, x, y))
+}
+
+/// An outline, and up to 64 districts inside it. Districts together have at most 2,048 vertices.
+#[derive(Clone)]
+pub struct Register {
+    outline: Vec<i32>,
+    store: Vec<i32>,
+    runs: Vec<u32>,
+}
+
+impl Register {
+    /// A register without an outline.
+    pub fn new() -> Register {
+        Register {
+            outline: vec![0; OUTLINE_LENGTH],
+            store: vec![0; STORE_LENGTH],
+            runs: vec![0; RUNS_LENGTH],
+        }
+    }
+
+    /// A register from lists as [`Register::lists`] gave them. Any lists are taken; if they are
+    /// damaged, every call is refused by NotWellFormed.
+    pub fn from_lists(outline: Vec<i32>, store: Vec<i32>, runs: Vec<u32>) -> Register {
+        Register {
+            outline,
+            store,
+            runs,
+        }
+    }
+
+    /// The lists that hold the register, for storing it: outline, store, runs.
+    pub fn lists(&self) -> (&[i32], &[i32], &[u32]) {
+        (&self.outline, &self.store, &self.runs)
+    }
+
+    pub fn is_well_formed(&self) -> bool {
+        calls::well_formed(&self.outline, &self.store, &self.runs)
+    }
+
+    /// Stores the outline, and makes district 0 with the same ring.
+    /// Refusals: NotWellFormed, OutlineThere, NoRing, BeyondGrid.
+    pub fn found(&mut self, ring: &[i32]) -> Result<(), Refusal> {
+        let answer = calls::found(&mut self.outline, &mut self.store, &mut self.runs, ring);
+        changed(answer).map(|_| ())
+    }
+
+    /// Splits district d from its vertex i to its vertex j along a path, which may be empty, and
+    /// answers the new district's number. District d keeps the piece from vertex i forward to j.
+    /// Refusals: NotWellFormed, NoOutline, BadNumber, BadIndex, NoRing (a path of odd length),
+    /// BeyondGrid, TooFew, NumbersInUse, NoRoom.
+    pub fn split(&mut self, d: usize, i: usize, j: usize, path: &[i32]) -> Result<usize, Refusal> {
+        changed(calls::split(
+            &self.outline,
+            &mut self.store,
+            &mut self.runs,
+            d,
+            i,
+            j,
+            path,
+        ))
+    }
+
+    /// Merges district `gone` into district `kept`, and answers `kept`. They share k edges: from its
+    /// vertex a forward, `kept` has the points that `gone` has from its vertex b backward.
+    /// Refusals: NotWellFormed, NoOutline, BadNumber, SameDistrict, BadIndex, NoMatch, TooFew.
+    pub fn merge(
+        &mut self,
+        (kept, a): (usize, usize),
+        (gone, b): (usize, usize),
+        k: usize,
+    ) -> Result<usize, Refusal> {
+        changed(calls::merge(
+            &self.outline,
+            &mut self.store,
+            &mut self.runs,
+            (kept, a),
+            (gone, b),
+            k,
+        ))
+    }
+
+    /// Where a report at (x, y) belongs. Refusals: NotWellFormed, NoOutline, BeyondGrid.
+    pub fn assign(&self, x: i32, y: i32) -> Result<Class, Refusal> {
+        class(calls::assign(&self.outline, &self.store, &self.runs, x, y))
+    }
+
+    /// The same, and raises the class's count. Refusals: CountFull too.
+    pub fn assign_counted(&self, x: i32, y: i32, tally: &mut Tally) -> Result<Class, Refusal> {
+        let counts = &mut tally.counts;
+        class(calls::assign_counted(
+            &self.outline,
+            &self.store,
+            &self.runs,
+            x,
+            y,
+            counts,
+        ))
+    }
+
+    /// The outline's ring, if there is one.
+    pub fn outline(&self) -> Option<&[i32]> {
+        ring(&self.outline, 0, *self.runs.first()?)
+    }
+
+    /// The ring of district d, if the number is in use.
+    pub fn district(&self, d: usize) -> Option<&[i32]> {
+        // Runs are the outline's number of vertices, the first places of all 64 numbers in the store,
+        // then their numbers of vertices (crates/districts/specs/Lists.antt).
+        let (places, sizes) = self.runs.get(1..RUNS_LENGTH)?.split_at(NUMBERS);
+        ring(&self.store, *places.get(d)?, *sizes.get(d)?)
+    }
+}
+
+impl Default for Register {
+    fn default() -> Register {
+        Register::new()
+    }
+}
+
+/// Counts of assigned reports. Later splits and merges move none.
+#[derive(Clone, Debug, PartialEq, Eq)]
+pub struct Tally {
+    counts: [u32; COUNTS],
+}
+
+impl Tally {
+    /// A tally of nothing yet.
+    pub fn new() -> Tally {
+        Tally {
+            counts: [0; COUNTS],
+        }
+    }
+
+    /// A tally from counts as [`Tally::counts`] gave them.
+    pub fn from_counts(counts: [u32; COUNTS]) -> Tally {
+        Tally { counts }
+    }
+
+    /// All counts, for storing the tally.
+    pub fn counts(&self) -> &[u32; COUNTS] {
+        &self.counts
+    }
+
+    /// How many reports were in district d alone; 0 for a number above 63.
+    pub fn one(&self, d: usize) -> u32 {
+        self.counts[..NUMBERS].get(d).copied().unwrap_or(0)
+    }
+
+    pub fn border(&self) -> u32 {
+        self.counts[BORDER]
+    }
+
+    pub fn none(&self) -> u32 {
+        self.counts[NONE]
+    }
+
+    pub fn several(&self) -> u32 {
+        self.counts[SEVERAL]
+    }
+}
+
+impl Default for Tally {
+    fn default() -> Tally {
+        Tally::new()
+    }
+}
+
+/// The ring of n vertices from a place of the list on. No vertices are no ring, and so is a run that
+/// leaves the list, which only a damaged register has.
+fn ring(list: &[i32], place: u32, n: u32) -> Option<&[i32]> {
+    let (start, length) = (2 * place as usize, 2 * n as usize);
+    if length == 0 {
+        return None;
+    }
+    list.get(start..start + length)
+}
+
+fn place(
+    Answer {
+        kind,
+        values: [first, second],
+    }: Answer,
+) -> Result<Place, Refusal> {
+    match kind {
+        calls::VERTEX => Ok(Place::Vertex(first as usize)),
+        calls::EDGE => Ok(Place::Edge(first as usize)),
+        calls::OFF if second == 1 => Ok(Place::Off(-(first as i32))),
+        calls::OFF => Ok(Place::Off(first as i32)),
+        _ => Err(refused(kind, first)),
+    }
+}
+
+fn changed(
+    Answer {
+        kind,
+        values: [first, _],
+    }: Answer,
+) -> Result<usize, Refusal> {
+    match kind {
+        calls::DONE => Ok(first as usize),
+        _ => Err(refused(kind, first)),
+    }
+}
+
+fn class(
+    Answer {
+        kind,
+        values: [first, second],
+    }: Answer,
+) -> Result<Class, Refusal> {
+    let d = first as usize;
+    match kind {
+        calls::BORDER => Ok(Class::Border(d)),
+        calls::ONE => Ok(Class::One(d)),
+        calls::NONE => Ok(Class::None),
+        calls::SEVERAL => Ok(Class::Several {
+            lowest: d,
+            count: second as usize,
+        }),
+        _ => Err(refused(kind, first)),
+    }
+}
+
+/// Panics on an answer that the header doesn't have for the call: the archive is another library's.
+fn refused(kind: u32, number: u64) -> Refusal {
+    let refusal = Refusal::ALL
+        .into_iter()
+        .find(|r| u64::from(r.number()) == number);
+    match (kind, refusal) {
+        (calls::REFUSED, Some(refusal)) => refusal,
+        _ => {
+            panic!("liblaunchramp.a answered {kind} with {number}, which launchramp.h doesn't have")
+        }
+    }
+}

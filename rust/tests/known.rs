@@ -1,0 +1,370 @@
+//! Document 01's known points, its listing, every refusal, and the tally at its limit.
+use launchramp::{locate, Class, Place, Refusal, Register, Tally};
+use launchramp::{COUNTS, NUMBERS, OUTLINE_LENGTH, RUNS_LENGTH, STORE_LENGTH};
+
+const LIMIT: i32 = 1_000_000_000;
+const BEYOND: i32 = LIMIT + 1;
+
+const S: &[i32] = &[0, 0, 4, 0, 4, 4, 0, 4];
+const S_BACKWARDS: &[i32] = &[0, 4, 4, 4, 4, 0, 0, 0];
+const S_TWICE: &[i32] = &[0, 0, 4, 0, 4, 4, 0, 4, 0, 0, 4, 0, 4, 4, 0, 4];
+const BOW_TIE: &[i32] = &[0, 0, 4, 4, 4, 0, 0, 4];
+const ONE_POINT: &[i32] = &[1, 1, 1, 1, 1, 1];
+const FLAT: &[i32] = &[0, 0, 4, 0, 2, 0];
+const HALF_THE_GRID: &[i32] = &[-LIMIT, -LIMIT, LIMIT, -LIMIT, LIMIT, LIMIT];
+
+fn founded() -> Register {
+    let mut register = Register::new();
+    register.found(S).unwrap();
+    register
+}
+
+#[test]
+fn known_points() {
+    for (ring, (x, y), place) in [
+        (S, (2, 2), Place::Off(1)),
+        (S, (5, 2), Place::Off(0)),
+        (S, (4, 4), Place::Vertex(2)),
+        (S, (4, 1), Place::Edge(1)),
+        (S, (0, 2), Place::Edge(3)),
+        (S_BACKWARDS, (2, 2), Place::Off(-1)),
+        (S_TWICE, (2, 2), Place::Off(2)),
+        (BOW_TIE, (3, 2), Place::Off(-1)),
+        (BOW_TIE, (1, 2), Place::Off(1)),
+        (BOW_TIE, (2, 2), Place::Edge(0)),
+        (ONE_POINT, (1, 1), Place::Vertex(0)),
+        (ONE_POINT, (0, 0), Place::Off(0)),
+        (FLAT, (3, 0), Place::Edge(0)),
+        (HALF_THE_GRID, (1, 0), Place::Off(1)),
+        (HALF_THE_GRID, (0, 1), Place::Off(0)),
+    ] {
+        assert_eq!(locate(ring, x, y), Ok(place), "{ring:?} at ({x}, {y})");
+    }
+}
+
+#[test]
+fn locating_refuses() {
+    assert_eq!(locate(&[], 0, 0), Err(Refusal::NoRing));
+    assert_eq!(locate(&S[..7], 0, 0), Err(Refusal::NoRing));
+    assert_eq!(locate(&[0; 2 * 2], 0, 0), Err(Refusal::NoRing));
+    assert_eq!(locate(&[0; 2 * 2049], 0, 0), Err(Refusal::NoRing));
+    assert_eq!(locate(&[0; 2 * 2048], 0, 0), Ok(Place::Vertex(0)));
+    assert_eq!(
+        locate(&[0, 0, 4, 0, BEYOND, 4], 0, 0),
+        Err(Refusal::BeyondGrid)
+    );
+    assert_eq!(locate(S, 0, -BEYOND), Err(Refusal::BeyondGrid));
+    assert_eq!(locate(&[], BEYOND, 0), Err(Refusal::NoRing));
+}
+
+#[test]
+fn known_split() {
+    let mut register = founded();
+    assert_eq!(register.split(0, 0, 1, &[2, 9]), Ok(1));
+    let (kept, new) = (register.district(0).unwrap(), register.district(1).unwrap());
+    assert_eq!(kept, [0, 0, 4, 0, 2, 9]);
+    assert_eq!(new, [4, 0, 4, 4, 0, 4, 0, 0, 2, 9]);
+    assert_eq!(locate(kept, 2, 6), Ok(Place::Off(1)));
+    assert_eq!(locate(new, 2, 6), Ok(Place::Off(-1)));
+    assert_eq!(
+        register.assign(2, 6),
+        Ok(Class::Several {
+            lowest: 0,
+            count: 2
+        })
+    );
+    assert_eq!(register.assign(2, 2), Ok(Class::One(0)));
+    assert_eq!(register.outline(), Some(S));
+}
+
+#[test]
+fn the_documents_listing() {
+    let mut register = Register::new();
+    let mut tally = Tally::new();
+    assert_eq!(register.found(S), Ok(()));
+    assert_eq!(register.split(0, 0, 2, &[]), Ok(1));
+    assert_eq!(register.assign_counted(3, 1, &mut tally), Ok(Class::One(0)));
+    assert_eq!(
+        register.assign_counted(2, 2, &mut tally),
+        Ok(Class::Border(0))
+    );
+    assert_eq!(register.assign_counted(9, 9, &mut tally), Ok(Class::None));
+    assert_eq!(register.split(1, 0, 1, &[]), Err(Refusal::TooFew));
+    assert_eq!(register.merge((0, 2), (1, 0), 1), Ok(0));
+    assert_eq!(register.assign_counted(2, 2, &mut tally), Ok(Class::One(0)));
+    let ones: Vec<u32> = (0..NUMBERS).map(|d| tally.one(d)).collect();
+    assert_eq!((ones[0], ones.iter().sum()), (2, 2));
+    assert_eq!((tally.border(), tally.none(), tally.several()), (1, 1, 0));
+}
+
+#[test]
+fn what_a_register_holds() {
+    let mut register = Register::new();
+    assert_eq!((register.outline(), register.district(0)), (None, None));
+    register.found(S).unwrap();
+    assert_eq!(
+        (register.outline(), register.district(0)),
+        (Some(S), Some(S))
+    );
+    register.split(0, 0, 2, &[]).unwrap();
+    assert_eq!(register.district(0), Some(&[0, 0, 4, 0, 4, 4][..]));
+    assert_eq!(register.district(1), Some(&[4, 4, 0, 4, 0, 0][..]));
+    register.merge((1, 2), (0, 0), 1).unwrap();
+    assert_eq!(register.district(0), None);
+    assert_eq!(register.district(1), Some(&[4, 4, 0, 4, 0, 0, 4, 0][..]));
+    assert_eq!((register.district(63), register.district(64)), (None, None));
+    assert_eq!(register.district(usize::MAX), None);
+}
+
+#[test]
+fn a_register_stored_and_read_again() {
+    let mut register = founded();
+    register.split(0, 0, 2, &[]).unwrap();
+    let (outline, store, runs) = register.lists();
+    let again = Register::from_lists(outline.to_vec(), store.to_vec(), runs.to_vec());
+    assert!(again.is_well_formed());
+    assert_eq!(again.district(1), register.district(1));
+    assert_eq!(again.assign(1, 3), Ok(Class::One(1)));
+}
+
+/// The call is refused so, and leaves the register's lists as they were.
+fn refuses(
+    register: &mut Register,
+    refusal: Refusal,
+    call: impl Fn(&mut Register) -> Option<Refusal>,
+) {
+    let before = register.clone();
+    assert_eq!(call(register), Some(refusal));
+    assert_eq!(register.lists(), before.lists());
+}
+
+#[test]
+fn before_an_outline() {
+    let mut register = Register::new();
+    let mut tally = Tally::new();
+    refuses(&mut register, Refusal::NoOutline, |r| {
+        r.split(64, 9, 9, &[BEYOND]).err()
+    });
+    refuses(&mut register, Refusal::NoOutline, |r| {
+        r.merge((64, 9), (64, 9), 0).err()
+    });
+    assert_eq!(register.assign(BEYOND, 0), Err(Refusal::NoOutline));
+    assert_eq!(
+        register.assign_counted(BEYOND, 0, &mut tally),
+        Err(Refusal::NoOutline)
+    );
+    assert_eq!(tally, Tally::new());
+}
+
+#[test]
+fn founding_refuses() {
+    let mut register = Register::new();
+    refuses(&mut register, Refusal::NoRing, |r| r.found(&[]).err());
+    refuses(&mut register, Refusal::NoRing, |r| r.found(&S[..7]).err());
+    refuses(&mut register, Refusal::NoRing, |r| {
+        r.found(&[BEYOND; 2 * 2]).err()
+    });
+    refuses(&mut register, Refusal::NoRing, |r| {
+        r.found(&[0; 2 * 2049]).err()
+    });
+    refuses(&mut register, Refusal::BeyondGrid, |r| {
+        r.found(&[0, 0, 4, 0, 4, -BEYOND]).err()
+    });
+    refuses(&mut founded(), Refusal::OutlineThere, |r| {
+        r.found(&[]).err()
+    });
+}
+
+#[test]
+fn splitting_refuses() {
+    let mut register = founded();
+    for (refusal, (d, i, j), path) in [
+        (Refusal::BadNumber, (1, 9, 9), &[BEYOND][..]),
+        (Refusal::BadNumber, (64, 0, 2), &[]),
+        (Refusal::BadNumber, (usize::MAX, 0, 2), &[]),
+        (Refusal::BadIndex, (0, 4, 2), &[BEYOND]),
+        (Refusal::BadIndex, (0, 0, usize::MAX), &[]),
+        (Refusal::BadIndex, (0, 2, 2), &[]),
+        (Refusal::NoRing, (0, 0, 1), &[BEYOND]),
+        (Refusal::BeyondGrid, (0, 0, 2), &[0, BEYOND]),
+        (Refusal::TooFew, (0, 0, 1), &[]),
+        (Refusal::TooFew, (0, 0, 3), &[]),
+    ] {
+        refuses(&mut register, refusal, |r| r.split(d, i, j, path).err());
+    }
+}
+
+#[test]
+fn a_full_store() {
+    let triangle = &S[..2 * 3];
+    // With 1,022 points on the path, 2,050 vertices from the square and 2,049 from the triangle.
+    let path = [1; 2 * 1022];
+    for ring in [S, triangle] {
+        let mut register = Register::new();
+        register.found(ring).unwrap();
+        refuses(&mut register, Refusal::NoRoom, |r| {
+            r.split(0, 0, 2, &path).err()
+        });
+        assert_eq!(register.split(0, 0, 2, &path[2..]), Ok(1));
+    }
+}
+
+#[test]
+fn sixty_four_districts() {
+    let mut register = founded();
+    for number in 1..NUMBERS {
+        assert_eq!(register.split(0, 0, 1, &[2, 2]), Ok(number));
+    }
+    refuses(&mut register, Refusal::NumbersInUse, |r| {
+        r.split(0, 0, 1, &[2; 2 * 2048]).err()
+    });
+}
+
+#[test]
+fn merging_refuses() {
+    let mut register = founded();
+    register.split(0, 0, 2, &[]).unwrap();
+    for (refusal, kept, gone, k) in [
+        (Refusal::BadNumber, (2, 9), (2, 9), 0),
+        (Refusal::BadNumber, (0, 9), (64, 9), 0),
+        (Refusal::SameDistrict, (0, 9), (0, 9), 0),
+        (Refusal::BadIndex, (0, 3), (1, 0), 0),
+        (Refusal::BadIndex, (0, 2), (1, usize::MAX), 1),
+        (Refusal::NoMatch, (0, 2), (1, 0), 0),
+        (Refusal::NoMatch, (0, 2), (1, 0), 2),
+        (Refusal::NoMatch, (0, 2), (1, 0), usize::MAX),
+        (Refusal::NoMatch, (0, 1), (1, 0), 1),
+    ] {
+        refuses(&mut register, refusal, |r| r.merge(kept, gone, k).err());
+    }
+}
+
+#[test]
+fn a_merge_that_leaves_too_few() {
+    let spike = [0, 0, 4, 0, 4, 4, 4, 0];
+    let mut register = Register::new();
+    register.found(&spike).unwrap();
+    register.split(0, 0, 2, &[]).unwrap();
+    refuses(&mut register, Refusal::TooFew, |r| {
+        r.merge((0, 0), (1, 2), 2).err()
+    });
+}
+
+#[test]
+fn damaged_lists() {
+    fn with(change: impl Fn(&mut Vec<i32>, &mut Vec<i32>, &mut Vec<u32>)) -> Register {
+        let mut register = founded();
+        register.split(0, 0, 2, &[]).unwrap();
+        let (outline, store, runs) = register.lists();
+        let (mut outline, mut store, mut runs) = (outline.to_vec(), store.to_vec(), runs.to_vec());
+        change(&mut outline, &mut store, &mut runs);
+        Register::from_lists(outline, store, runs)
+    }
+    // Where the runs tell of the outline's size, and of district 1's first place and size.
+    const OUTLINE: usize = 0;
+    const PLACE: usize = 1 + 1;
+    const SIZE: usize = 1 + NUMBERS + 1;
+    for mut register in [
+        Register::from_lists(vec![], vec![], vec![]),
+        with(|outline, _, _| outline.truncate(OUTLINE_LENGTH - 1)),
+        with(|_, store, _| store.push(0)),
+        with(|_, _, runs| runs.truncate(RUNS_LENGTH - 1)),
+        with(|_, _, runs| runs[OUTLINE] = 0),
+        with(|_, _, runs| runs[OUTLINE] = 2),
+        with(|_, _, runs| runs[OUTLINE] = u32::MAX),
+        with(|_, _, runs| runs[PLACE] -= 1),
+        with(|_, _, runs| runs[PLACE] += 1),
+        with(|_, _, runs| runs[PLACE] = u32::MAX),
+        with(|_, _, runs| runs[SIZE] = 2),
+        with(|_, _, runs| runs[SIZE] = u32::MAX),
+        with(|outline, _, _| outline[0] = BEYOND),
+        with(|_, store, _| store[0] = -BEYOND),
+    ] {
+        let mut tally = Tally::new();
+        assert!(!register.is_well_formed());
+        refuses(&mut register, Refusal::NotWellFormed, |r| r.found(S).err());
+        refuses(&mut register, Refusal::NotWellFormed, |r| {
+            r.split(0, 0, 2, &[]).err()
+        });
+        refuses(&mut register, Refusal::NotWellFormed, |r| {
+            r.merge((0, 2), (1, 0), 1).err()
+        });
+        assert_eq!(register.assign(3, 1), Err(Refusal::NotWellFormed));
+        assert_eq!(
+            register.assign_counted(3, 1, &mut tally),
+            Err(Refusal::NotWellFormed)
+        );
+        assert_eq!(tally, Tally::new());
+        for d in 0..=NUMBERS {
+            register.district(d);
+        }
+        register.outline();
+    }
+}
+
+#[test]
+fn free_room_has_no_meaning() {
+    let litter = vec![i32::MIN; STORE_LENGTH];
+    let mut register = Register::from_lists(litter.clone(), litter, vec![0; RUNS_LENGTH]);
+    assert_eq!(register.found(S), Ok(()));
+    assert_eq!(register.assign(2, 2), Ok(Class::One(0)));
+}
+
+#[test]
+fn a_report_beyond_the_grid() {
+    let mut tally = Tally::new();
+    assert_eq!(founded().assign(0, i32::MIN), Err(Refusal::BeyondGrid));
+    assert_eq!(
+        founded().assign_counted(BEYOND, 0, &mut tally),
+        Err(Refusal::BeyondGrid)
+    );
+    assert_eq!(tally, Tally::new());
+}
+
+#[test]
+fn a_tally_at_its_limit() {
+    let mut register = founded();
+    register.split(0, 0, 1, &[2, 9]).unwrap();
+    let almost = Tally::from_counts([u32::MAX - 1; COUNTS]);
+    for ((x, y), class) in [
+        ((2, 2), Class::One(0)),
+        ((2, 9), Class::Border(0)),
+        ((9, 9), Class::None),
+        (
+            (2, 6),
+            Class::Several {
+                lowest: 0,
+                count: 2,
+            },
+        ),
+    ] {
+        let mut tally = almost.clone();
+        assert_eq!(register.assign_counted(x, y, &mut tally), Ok(class));
+        let full = tally.clone();
+        let raised = tally
+            .counts()
+            .iter()
+            .filter(|&&count| count == u32::MAX)
+            .count();
+        assert_eq!(raised, 1);
+        assert_eq!(
+            register.assign_counted(x, y, &mut tally),
+            Err(Refusal::CountFull)
+        );
+        assert_eq!(tally, full);
+        assert_eq!(
+            register.assign_counted(BEYOND, y, &mut tally),
+            Err(Refusal::BeyondGrid)
+        );
+    }
+}
+
+#[test]
+fn refusals_have_document_01s_numbers() {
+    let numbers = Refusal::ALL.map(Refusal::number);
+    assert_eq!(numbers, [1, 2, 3, 4, 5, 6, 7, 8, 9, 10, 11, 12, 14]);
+    assert_eq!(
+        Refusal::NoOutline.to_string(),
+        "the register has no outline yet"
+    );
+}

@@ -1,0 +1,313 @@
+//! Some 100,000 made calls, to the library and to plain Rust: every answer is compared, and after
+//! every change every ring. At the end every answer must have come.
+mod plain;
+
+use launchramp::{locate, Refusal, Register, NUMBERS};
+use plain::{shared_edges, Point, Rows};
+use std::collections::BTreeSet;
+use std::fmt::Debug;
+
+const SEED: u64 = 7;
+const LIVES: usize = 500;
+const CALLS_A_LIFE: usize = 200;
+const LIMIT: i32 = 1_000_000_000;
+const BEYOND: i32 = LIMIT + 1;
+
+/// Numbers by chance, the same on every machine: the splitmix64 generator.
+struct Chance(u64);
+
+impl Chance {
+    fn next(&mut self) -> u64 {
+        self.0 = self.0.wrapping_add(0x9E37_79B9_7F4A_7C15);
+        let z = (self.0 ^ (self.0 >> 30)).wrapping_mul(0xBF58_476D_1CE4_E5B9);
+        let z = (z ^ (z >> 27)).wrapping_mul(0x94D0_49BB_1331_11EB);
+        z ^ (z >> 31)
+    }
+
+    fn below(&mut self, n: usize) -> usize {
+        (self.next() % n as u64) as usize
+    }
+
+    fn once_in(&mut self, n: usize) -> bool {
+        self.below(n) == 0
+    }
+
+    fn between(&mut self, low: i32, high: i32) -> i32 {
+        low + self.below((high - low + 1) as usize) as i32
+    }
+}
+
+/// How a register lives: its coordinates are up to `steps` each way, `wide` apart; its paths have up
+/// to `longest_path` points; and one change in `merges` is a merge.
+struct Style {
+    steps: i32,
+    wide: i32,
+    longest_path: usize,
+    merges: usize,
+}
+
+/// Few points and degenerate rings, the whole grid, a store that fills up, numbers that run out.
+const STYLES: [Style; 4] = [
+    Style {
+        steps: 1,
+        wide: 1,
+        longest_path: 3,
+        merges: 2,
+    },
+    Style {
+        steps: 2,
+        wide: LIMIT / 2,
+        longest_path: 5,
+        merges: 3,
+    },
+    Style {
+        steps: 1000,
+        wide: 1_000_000,
+        longest_path: 200,
+        merges: 3,
+    },
+    Style {
+        steps: 9,
+        wide: 1,
+        longest_path: 4,
+        merges: 20,
+    },
+];
+
+/// One register, held by the library and as rows.
+struct Life<'a> {
+    chance: &'a mut Chance,
+    style: &'a Style,
+    register: Register,
+    rows: Rows,
+    seen: &'a mut BTreeSet<String>,
+}
+
+impl Life<'_> {
+    fn live(&mut self) {
+        for _ in 0..CALLS_A_LIFE {
+            match self.chance.below(10) {
+                0 => self.found(),
+                1 => self.locate(),
+                2..=4 => self.assign(),
+                _ if self.chance.once_in(self.style.merges) => self.merge(),
+                _ => self.split(),
+            }
+        }
+    }
+
+    fn found(&mut self) {
+        let n = self.chance.below(12);
+        let ring = self.list(n);
+        let answers = (self.register.found(&ring), self.rows.found(&ring));
+        self.compare("found", answers);
+        self.compare_rings();
+    }
+
+    fn split(&mut self) {
+        let d = self.number();
+        let (i, j) = (self.index(d), self.index(d));
+        let k = self.chance.below(self.style.longest_path + 1);
+        let path = self.list(k);
+        let answers = (
+            self.register.split(d, i, j, &path),
+            self.rows.split(d, i, j, &path),
+        );
+        self.compare("split", answers);
+        self.compare_rings();
+    }
+
+    fn merge(&mut self) {
+        let (kept, gone) = (self.number(), self.number());
+        let (a, b, most) =
+            self.shared(kept, gone)
+                .unwrap_or((self.index(kept), self.index(gone), 1));
+        let k = if self.chance.once_in(20) {
+            most + 1
+        } else {
+            self.chance.below(most + 1)
+        };
+        let (kept, gone) = ((kept, a), (gone, b));
+        let answers = (
+            self.register.merge(kept, gone, k),
+            self.rows.merge(kept, gone, k),
+        );
+        self.compare("merge", answers);
+        self.compare_rings();
+    }
+
+    fn assign(&mut self) {
+        let (x, y) = self.point();
+        self.compare(
+            "assign",
+            (self.register.assign(x, y), self.rows.assign(x, y)),
+        );
+    }
+
+    fn locate(&mut self) {
+        let n = self.chance.below(40);
+        let ring = self.list(n);
+        let (x, y) = self.point();
+        self.compare("locate", (locate(&ring, x, y), plain::locate(&ring, x, y)));
+    }
+
+    fn coordinate(&mut self) -> i32 {
+        self.chance.between(-self.style.steps, self.style.steps) * self.style.wide
+    }
+
+    /// A point, now and then beyond the grid.
+    fn point(&mut self) -> Point {
+        let (x, y) = (self.coordinate(), self.coordinate());
+        match self.chance.below(100) {
+            0 => (BEYOND, y),
+            1 => (x, i32::MIN),
+            _ => (x, y),
+        }
+    }
+
+    /// A list of n points, now and then with half a point more, or one more beyond the grid.
+    fn list(&mut self, n: usize) -> Vec<i32> {
+        let mut list: Vec<i32> = (0..2 * n).map(|_| self.coordinate()).collect();
+        match self.chance.below(50) {
+            0 => list.push(BEYOND),
+            1 => list.extend([0, -BEYOND]),
+            _ => {}
+        }
+        list
+    }
+
+    /// A number in use, now and then another.
+    fn number(&mut self) -> usize {
+        let used: Vec<usize> = (0..NUMBERS).filter(|&d| !self.ring(d).is_empty()).collect();
+        if used.is_empty() || self.chance.once_in(30) {
+            return self.chance.below(NUMBERS + 2);
+        }
+        used[self.chance.below(used.len())]
+    }
+
+    /// An index of the district's ring, now and then the one behind it.
+    fn index(&mut self, d: usize) -> usize {
+        let n = self.ring(d).len();
+        if n == 0 || self.chance.once_in(30) {
+            return n;
+        }
+        self.chance.below(n)
+    }
+
+    /// Some edges that both districts have: where they start in each ring, and how many they are.
+    fn shared(&mut self, kept: usize, gone: usize) -> Option<(usize, usize, usize)> {
+        let start = self.index(kept);
+        let (ring_a, ring_b) = (self.ring(kept), self.ring(gone));
+        for a in (start..ring_a.len()).chain(0..start.min(ring_a.len())) {
+            for b in 0..ring_b.len() {
+                let edges = shared_edges(ring_a, a, ring_b, b);
+                if edges > 0 {
+                    return Some((a, b, edges));
+                }
+            }
+        }
+        None
+    }
+
+    fn ring(&self, d: usize) -> &[Point] {
+        self.rows
+            .districts
+            .get(d)
+            .and_then(Option::as_deref)
+            .unwrap_or(&[])
+    }
+
+    fn compare<T: Debug + PartialEq>(
+        &mut self,
+        call: &str,
+        (library, rows): (Result<T, Refusal>, Result<T, Refusal>),
+    ) {
+        assert_eq!(library, rows, "{call}");
+        let answer = match library {
+            Ok(answer) => format!("{answer:?}"),
+            Err(refusal) => format!("{refusal:?}"),
+        };
+        let name: String = answer.chars().take_while(|c| c.is_alphabetic()).collect();
+        self.seen.insert(format!("{call} {name}"));
+    }
+
+    fn compare_rings(&self) {
+        let list = |ring: &[Point]| ring.iter().flat_map(|&(x, y)| [x, y]).collect::<Vec<i32>>();
+        assert!(self.register.is_well_formed());
+        let outline = self.rows.outline.as_deref().map(list);
+        assert_eq!(self.register.outline(), outline.as_deref());
+        for d in 0..NUMBERS {
+            let district = self.rows.districts[d].as_deref().map(list);
+            assert_eq!(
+                self.register.district(d),
+                district.as_deref(),
+                "district {d}"
+            );
+        }
+    }
+}
+
+/// Every answer of each call but refusals 1 and 14; an accepted change has no name.
+const ANSWERS: [(&str, &[&str]); 5] = [
+    ("found", &["", "OutlineThere", "NoRing", "BeyondGrid"]),
+    (
+        "split",
+        &[
+            "",
+            "NoOutline",
+            "BadNumber",
+            "BadIndex",
+            "NoRing",
+            "BeyondGrid",
+            "TooFew",
+            "NumbersInUse",
+            "NoRoom",
+        ],
+    ),
+    (
+        "merge",
+        &[
+            "",
+            "NoOutline",
+            "BadNumber",
+            "SameDistrict",
+            "BadIndex",
+            "NoMatch",
+            "TooFew",
+        ],
+    ),
+    (
+        "assign",
+        &[
+            "Border",
+            "One",
+            "None",
+            "Several",
+            "NoOutline",
+            "BeyondGrid",
+        ],
+    ),
+    ("locate", &["Vertex", "Edge", "Off", "NoRing", "BeyondGrid"]),
+];
+
+#[test]
+fn lives_of_registers() {
+    let mut chance = Chance(SEED);
+    let mut seen = BTreeSet::new();
+    for life in 0..LIVES {
+        let style = &STYLES[life % STYLES.len()];
+        let (register, rows) = (Register::new(), Rows::new());
+        Life {
+            chance: &mut chance,
+            style,
+            register,
+            rows,
+            seen: &mut seen,
+        }
+        .live();
+    }
+    let all = ANSWERS
+        .iter()
+        .flat_map(|(call, names)| names.iter().map(move |name| format!("{call} {name}")));
+    assert_eq!(seen, all.collect());
+}

@@ -1,0 +1,253 @@
+/* What both.h promises. */
+#include "both.h"
+
+#include <inttypes.h>
+#include <stdio.h>
+#include <stdlib.h>
+#include <string.h>
+
+#define MOST_LIST 8192
+#define KINDS 9
+#define REFUSALS 15
+#define JUNK 0x5A5A5A5A5A5A5A5Au
+
+uint64_t both_calls;
+
+/* Outcomes: the kinds of answer but REFUSED at their numbers, then the refusals. */
+static uint64_t came[CALLS][KINDS + REFUSALS];
+
+static const char *const call_names[CALLS] = {"locate", "well_formed", "found", "split", "merge", "assign", "assign_counted"};
+static const char *const kind_names[KINDS] = {"refused", "done", "vertex", "edge", "off", "border", "one", "none", "several"};
+
+#define KIND(kind) (1u << (LAUNCHRAMP_##kind))
+#define REFUSAL(number) (1u << (KINDS + (number)))
+#define SORTED (KIND(BORDER) | KIND(ONE) | KIND(NONE) | KIND(SEVERAL) | REFUSAL(1) | REFUSAL(2) | REFUSAL(5))
+
+/* What launchramp.h says that each call may answer. */
+static const uint32_t named[CALLS] = {
+    [LOCATE] = KIND(VERTEX) | KIND(EDGE) | KIND(OFF) | REFUSAL(4) | REFUSAL(5),
+    [WELL_FORMED] = KIND(DONE) | REFUSAL(1),
+    [FOUND] = KIND(DONE) | REFUSAL(1) | REFUSAL(3) | REFUSAL(4) | REFUSAL(5),
+    [SPLIT] = KIND(DONE) | REFUSAL(1) | REFUSAL(2) | REFUSAL(4) | REFUSAL(5) | REFUSAL(6) | REFUSAL(8) | REFUSAL(9) | REFUSAL(11) | REFUSAL(12),
+    [MERGE] = KIND(DONE) | REFUSAL(1) | REFUSAL(2) | REFUSAL(6) | REFUSAL(7) | REFUSAL(8) | REFUSAL(9) | REFUSAL(10),
+    [ASSIGN] = SORTED,
+    [ASSIGN_COUNTED] = SORTED | REFUSAL(14),
+};
+
+static size_t outcome(struct plain_answer answer)
+{
+    return answer.kind == LAUNCHRAMP_REFUSED ? KINDS + answer.first : answer.kind;
+}
+
+bool both_all_reached(void)
+{
+    bool all = true;
+    for (size_t c = 0; c < CALLS; c++) {
+        printf("  %-16s", call_names[c]);
+        for (size_t o = 0; o < KINDS + REFUSALS; o++) {
+            if (o < KINDS && came[c][o] > 0)
+                printf(" %s %" PRIu64, kind_names[o], came[c][o]);
+            if (o >= KINDS && came[c][o] > 0)
+                printf(" [%zu] %" PRIu64, o - KINDS, came[c][o]);
+            if ((came[c][o] > 0) != (named[c] >> o & 1)) {
+                printf(" (%s %zu: %s)", o < KINDS ? "kind" : "refusal", o < KINDS ? o : o - KINDS, came[c][o] > 0 ? "NOT NAMED" : "NEVER CAME");
+                all = false;
+            }
+        }
+        printf("\n");
+    }
+    return all;
+}
+
+/* Without the zeros at the end. */
+static void print_list(const char *name, const int32_t *list, size_t length)
+{
+    size_t told = length;
+    while (told > 0 && list[told - 1] == 0)
+        told--;
+    printf("  %s, %zu numbers:", name, length);
+    for (size_t i = 0; i < told; i++)
+        printf(" %" PRId32, list[i]);
+    printf(told < length ? " and zeros\n" : "\n");
+}
+
+static void print_counts(const char *name, const uint32_t *list, size_t length)
+{
+    printf("  %s, %zu numbers:", name, length);
+    for (size_t i = 0; i < length; i++)
+        printf(" %" PRIu32, list[i]);
+    printf("\n");
+}
+
+static void print_lists(const char *when, const struct lists *l)
+{
+    printf(" %s\n", when);
+    print_list("outline", l->outline, l->outline_length);
+    print_list("store", l->store, l->store_length);
+    print_counts("runs", l->runs, l->runs_length);
+}
+
+static void print_answer(const char *who, struct plain_answer answer)
+{
+    printf("  %s: %s %" PRIu64 " %" PRIu64 "\n", who, answer.kind < KINDS ? kind_names[answer.kind] : "no kind", answer.first, answer.second);
+}
+
+static void print_call(const struct twice *t, const struct call *call)
+{
+    printf("launchramp_%s", call_names[call->which]);
+    if (call->which == SPLIT)
+        printf(", d %zu, i %zu, j %zu", call->number[0], call->number[1], call->number[2]);
+    if (call->which == MERGE)
+        printf(", kept %zu, a %zu, gone %zu, b %zu, k %zu", call->number[0], call->number[1], call->number[2], call->number[3],
+               call->number[4]);
+    if (call->which == LOCATE || call->which == ASSIGN || call->which == ASSIGN_COUNTED)
+        printf(", point %" PRId32 " %" PRId32, call->x, call->y);
+    printf("\n");
+    if (call->which == LOCATE || call->which == FOUND || call->which == SPLIT)
+        print_list("list", call->list, call->length);
+    if (call->which == LOCATE)
+        return;
+    print_lists("the lists before", &t->before);
+    print_lists("the lists afterwards", &t->lists);
+    if (call->which != ASSIGN_COUNTED)
+        return;
+    print_counts("the tally afterwards", t->counts, LAUNCHRAMP_COUNTS);
+    print_counts("the tally afterwards in plain C", t->plain_counts, LAUNCHRAMP_COUNTS);
+}
+
+static void differ(const struct twice *t, const struct call *call, const char *how, struct plain_answer got, struct plain_answer expected)
+{
+    printf("call %" PRIu64 " differs, %s: ", both_calls, how);
+    print_call(t, call);
+    print_answer("launchramp", got);
+    print_answer("plain C", expected);
+    exit(1);
+}
+
+static struct plain_answer plain_call(struct twice *t, const struct call *c)
+{
+    const size_t *number = c->number;
+    const struct plain_answer well_formed = {LAUNCHRAMP_DONE, 0, 0}, not_well_formed = {LAUNCHRAMP_REFUSED, NOT_WELL_FORMED, 0};
+    if (c->which == LOCATE)
+        return plain_locate(c->list, c->length, c->x, c->y);
+    if (t->damaged)
+        return not_well_formed;
+    switch (c->which) {
+    case FOUND:
+        return plain_found(&t->rows, c->list, c->length);
+    case SPLIT:
+        return plain_split(&t->rows, number[0], number[1], number[2], c->list, c->length);
+    case MERGE:
+        return plain_merge(&t->rows, number[0], number[1], number[2], number[3], number[4]);
+    case ASSIGN:
+        return plain_assign(&t->rows, c->x, c->y);
+    case ASSIGN_COUNTED:
+        return plain_count(t->plain_counts, plain_assign(&t->rows, c->x, c->y));
+    default:
+        return well_formed;
+    }
+}
+
+static uint32_t library_call(struct twice *t, const struct call *c, uint64_t *values)
+{
+    struct lists *l = t == NULL ? NULL : &t->lists;
+    const size_t *number = c->number;
+    switch (c->which) {
+    case LOCATE:
+        return launchramp_locate(c->list, c->length, c->x, c->y, values);
+    case FOUND:
+        return launchramp_found(l->outline, l->outline_length, l->store, l->store_length, l->runs, l->runs_length, c->list, c->length,
+                                values);
+    case SPLIT:
+        return launchramp_split(l->outline, l->outline_length, l->store, l->store_length, l->runs, l->runs_length, number[0], number[1],
+                                number[2], c->list, c->length, values);
+    case MERGE:
+        return launchramp_merge(l->outline, l->outline_length, l->store, l->store_length, l->runs, l->runs_length, number[0], number[1],
+                                number[2], number[3], number[4], values);
+    case ASSIGN:
+        return launchramp_assign(l->outline, l->outline_length, l->store, l->store_length, l->runs, l->runs_length, c->x, c->y, values);
+    case ASSIGN_COUNTED:
+        return launchramp_assign_counted(l->outline, l->outline_length, l->store, l->store_length, l->runs, l->runs_length, c->x, c->y,
+                                         t->counts, values);
+    default:
+        values[1] = 0;
+        values[0] = launchramp_well_formed(l->outline, l->outline_length, l->store, l->store_length, l->runs, l->runs_length) ? 0
+                                                                                                                              : NOT_WELL_FORMED;
+        return values[0] == 0 ? LAUNCHRAMP_DONE : LAUNCHRAMP_REFUSED;
+    }
+}
+
+/* Whether an accepted founding, split or merge left what it may: the rings of the rows, in well-formed lists of the same length, and the
+ * outline as it was where it is lent for reading. What stands in the free room has no meaning. */
+static bool changed_well(const struct twice *t, enum which which)
+{
+    const struct lists *l = &t->lists, *before = &t->before;
+    const size_t spare = BOTH_SPARE * sizeof(int32_t);
+    if (which != FOUND && memcmp(l->outline, before->outline, sizeof l->outline) != 0)
+        return false;
+    if (memcmp(l->outline + LAUNCHRAMP_OUTLINE_LENGTH, before->outline + LAUNCHRAMP_OUTLINE_LENGTH, spare) != 0 ||
+        memcmp(l->store + LAUNCHRAMP_STORE_LENGTH, before->store + LAUNCHRAMP_STORE_LENGTH, spare) != 0 ||
+        memcmp(l->runs + LAUNCHRAMP_RUNS_LENGTH, before->runs + LAUNCHRAMP_RUNS_LENGTH, spare) != 0)
+        return false;
+    return plain_well_formed(l->outline, l->outline_length, l->store, l->store_length, l->runs, l->runs_length) &&
+           plain_same(&t->rows, l->outline, l->store, l->runs);
+}
+
+static void compare_lists(struct twice *t, const struct call *call, struct plain_answer got, struct plain_answer expected)
+{
+    bool changes = call->which == FOUND || call->which == SPLIT || call->which == MERGE;
+    if (changes && got.kind == LAUNCHRAMP_DONE) {
+        if (!changed_well(t, call->which))
+            differ(t, call, "the lists afterwards", got, expected);
+        both_remember(t);
+    } else if (memcmp(&t->lists, &t->before, sizeof t->lists) != 0) {
+        differ(t, call, "a list was changed", got, expected);
+    }
+    if (memcmp(t->counts, t->plain_counts, sizeof t->counts) != 0)
+        differ(t, call, "the tally afterwards", got, expected);
+}
+
+struct plain_answer both_ask(struct twice *t, const struct call *call)
+{
+    static int32_t lent[MOST_LIST];
+    uint64_t values[LAUNCHRAMP_VALUES + 1] = {JUNK, JUNK, JUNK};
+    size_t bytes = call->length * sizeof lent[0];
+    struct plain_answer expected = plain_call(t, call), got;
+    both_calls++;
+    memcpy(lent, call->list, bytes);
+    got.kind = library_call(t, call, values);
+    got.first = values[0];
+    got.second = values[1];
+    if (got.kind != expected.kind || got.first != expected.first || got.second != expected.second || values[LAUNCHRAMP_VALUES] != JUNK)
+        differ(t, call, "the answer", got, expected);
+    if (memcmp(lent, call->list, bytes) != 0)
+        differ(t, call, "the lent list was changed", got, expected);
+    if (call->which != LOCATE)
+        compare_lists(t, call, got, expected);
+    came[call->which][outcome(got)]++;
+    return got;
+}
+
+/* In small pieces: the C library copies large ones by an instruction that takes the kit's emulator a byte at a time. */
+void both_copy(struct lists *to, const struct lists *from)
+{
+    const size_t piece = 1024;
+    size_t at = 0;
+    for (; at + piece <= sizeof *to; at += piece)
+        memcpy((char *)to + at, (const char *)from + at, piece);
+    memcpy((char *)to + at, (const char *)from + at, sizeof *to - at);
+}
+
+void both_remember(struct twice *t)
+{
+    both_copy(&t->before, &t->lists);
+}
+
+void both_reread(struct twice *t)
+{
+    const struct lists *l = &t->lists;
+    t->damaged = !plain_well_formed(l->outline, l->outline_length, l->store, l->store_length, l->runs, l->runs_length);
+    if (!t->damaged)
+        plain_read(&t->rows, l->outline, l->store, l->runs);
+    both_remember(t);
+}

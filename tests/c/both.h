@@ -1,0 +1,60 @@
+/* One call to the library and to plain.h, compared: the answer and its values, every byte of the lists where nothing may change, and every
+ * ring where something does. The first difference is printed with the whole call, and ends the program with status 1. */
+#ifndef BOTH_H
+#define BOTH_H
+
+#include "plain.h"
+
+/* Numbers behind each list that no call may change; a list of a wrong length reaches into them. 7 leaves no padding in struct lists. */
+#define BOTH_SPARE 7
+
+struct lists {
+    size_t outline_length, store_length, runs_length;
+    int32_t outline[LAUNCHRAMP_OUTLINE_LENGTH + BOTH_SPARE];
+    int32_t store[LAUNCHRAMP_STORE_LENGTH + BOTH_SPARE];
+    uint32_t runs[LAUNCHRAMP_RUNS_LENGTH + BOTH_SPARE];
+};
+
+/* A register and a tally twice over: as the library has them and in plain C. */
+struct twice {
+    struct lists lists;
+    /* What the lists held before the call. */
+    struct lists before;
+    /* The lists are not well-formed, and `rows` says nothing. */
+    bool damaged;
+    struct plain_register rows;
+    uint32_t counts[LAUNCHRAMP_COUNTS + BOTH_SPARE];
+    uint32_t plain_counts[LAUNCHRAMP_COUNTS + BOTH_SPARE];
+};
+
+enum which { LOCATE, WELL_FORMED, FOUND, SPLIT, MERGE, ASSIGN, ASSIGN_COUNTED, CALLS };
+
+struct call {
+    enum which which;
+    /* A split's d, i, j; a merge's kept, a, gone, b, k. */
+    size_t number[5];
+    /* A ring or a path. */
+    const int32_t *list;
+    size_t length;
+    int32_t x, y;
+};
+
+/* How many calls were made so far. */
+extern uint64_t both_calls;
+
+void both_copy(struct lists *to, const struct lists *from);
+
+/* The lists were changed from outside: whether they are well-formed, and what they hold, is read anew. */
+void both_reread(struct twice *t);
+
+/* The lists' free room was changed from outside. */
+void both_remember(struct twice *t);
+
+/* Makes the call; `t` is not needed for LOCATE. The answer is the one that both gave. WELL_FORMED is told as DONE or as refusal 1. */
+struct plain_answer both_ask(struct twice *t, const struct call *call);
+
+/* Prints how often each answer and each refusal came. False, and a line that says so, where launchramp.h names one that never came, or does
+ * not name one that did. */
+bool both_all_reached(void);
+
+#endif

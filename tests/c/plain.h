@@ -1,0 +1,73 @@
+/* Document 01 again in plain C, to compare the library with; it shares no code with it. Winding numbers are counted by the crossing rule,
+ * determinants have 128 bits, and every district has a row of its own, so nothing is ever packed. Answers are told as launchramp.h tells
+ * them. Refusal 1 is not given here: a plain register has no way to be damaged. Whether lists are well-formed is asked apart. */
+#ifndef PLAIN_H
+#define PLAIN_H
+
+#include "launchramp.h"
+
+#define PLAIN_NUMBERS 64
+#define PLAIN_FEWEST_VERTICES 3
+#define PLAIN_MOST_VERTICES 2048
+#define PLAIN_LIMIT 1000000000
+
+/* The refusals by document 01's numbers. */
+enum {
+    NOT_WELL_FORMED = 1,
+    NO_OUTLINE = 2,
+    OUTLINE_THERE = 3,
+    NO_RING = 4,
+    BEYOND_GRID = 5,
+    BAD_NUMBER = 6,
+    SAME_DISTRICT = 7,
+    BAD_INDEX = 8,
+    TOO_FEW = 9,
+    NO_MATCH = 10,
+    NUMBERS_IN_USE = 11,
+    NO_ROOM = 12,
+    COUNT_FULL = 14
+};
+
+/* Laid out as two numbers x, y of a list. */
+struct plain_point {
+    int32_t x, y;
+};
+
+/* No vertices: no ring. */
+struct plain_ring {
+    size_t n;
+    struct plain_point at[PLAIN_MOST_VERTICES];
+};
+
+struct plain_register {
+    struct plain_ring outline;
+    struct plain_ring district[PLAIN_NUMBERS];
+};
+
+struct plain_answer {
+    uint32_t kind;
+    uint64_t first, second;
+};
+
+/* How many vertices all districts have. */
+size_t plain_total(const struct plain_register *g);
+
+struct plain_answer plain_locate(const int32_t *list, size_t length, int32_t x, int32_t y);
+struct plain_answer plain_found(struct plain_register *g, const int32_t *list, size_t length);
+struct plain_answer plain_split(struct plain_register *g, size_t d, size_t i, size_t j, const int32_t *path, size_t length);
+struct plain_answer plain_merge(struct plain_register *g, size_t kept, size_t a, size_t gone, size_t b, size_t k);
+struct plain_answer plain_assign(const struct plain_register *g, int32_t x, int32_t y);
+
+/* The answer to a report after counting it in a tally of LAUNCHRAMP_COUNTS counts. */
+struct plain_answer plain_count(uint32_t *counts, struct plain_answer sorted);
+
+bool plain_well_formed(const int32_t *outline, size_t outline_length, const int32_t *store, size_t store_length, const uint32_t *runs,
+                       size_t runs_length);
+
+/* The register that well-formed lists hold. */
+void plain_read(struct plain_register *g, const int32_t *outline, const int32_t *store, const uint32_t *runs);
+
+/* Whether lists that are known to be well-formed hold this register: every ring, from the same vertex on. */
+bool plain_same(const struct plain_register *g, const int32_t *outline, const int32_t *store, const uint32_t *runs);
+
+#endif
