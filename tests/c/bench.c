@@ -387,7 +387,7 @@ static void print_machine(void)
     if (emulator == NULL)
         printf("emulator: none\n");
     else
-        printf("emulator: %s; these figures are the emulator's and say nothing of a processor\n", emulator);
+        printf("emulator: %s; times are the emulator's own; only the ratios count\n", emulator);
 }
 
 int main(void)

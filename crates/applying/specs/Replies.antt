@@ -1,5 +1,4 @@
 -- What a call is answered as a record of the stream, what it does to the tally, and what it leaves in the register's lists. Assumes nothing.
-use Prim.Native.Nat.{ℕ}
 use mathlib.Core.Path.{_≡_}
 use mathlib.Core.Bool.{Bool}
 use Rattle.districts.specs.Register.{Register}

@@ -5,8 +5,6 @@ use crate::calling;
 use records::Front;
 use tally::Tally;
 use wording::Kind;
-ghost use mathlib.Core.Path.{_≡_};
-ghost use lib.ListN.{length};
 ghost use Rattle.records.specs.Layout.{front};
 ghost use Rattle.applying.specs.Advancing.{AdvancedBy};
 

@@ -1,5 +1,5 @@
 -- The bytes that a buffer keeps when it is filled anew, and what printing takes of them. Assumes nothing.
-use Prim.Native.Nat.{ℕ, _+_, _-_, _≤_, _<_}
+use Prim.Native.Nat.{ℕ, _+_, _-_, _≤_}
 use native.Mathlib.Omega.{arith}
 use mathlib.Core.Path.{_≡_}
 use mathlib.Core.List.{List, _++_}
@@ -8,7 +8,7 @@ use lib.Seq.{take-at, length-take-le, paste}
 use Rattle.register.specs.Calls.{Lists}
 use Rattle.stream.specs.declared.Page.{Page}
 use Rattle.stream.specs.Desks.{Desk}
-use Rattle.stream.specs.Printing.{Printed, numbers}
+use Rattle.stream.specs.Printing.{Printed}
 use Rattle.group.specs.declared.Reading.{Reading}
 use Rattle.group.specs.Held.{piece, Kept, Held}
 
@@ -29,10 +29,6 @@ pub record Within (d : Reading) (p : Page) : Type 0 where
 
 part-long : (d : Reading) (input : List ℕ) → Kept d input → length (take (d .end - d .at) (drop (d .at) input)) ≡ d .end - d .at
 part-long d input kept = length-take-le (d .end - d .at) (drop (d .at) input) (omega (arith, kept .taken, kept .there, length-drop (d .at) input))
-
--- what is left to print can be counted
-pub part-countable : (d : Reading) (input : List ℕ) (l : Lists) → Held d input l → d .records + length (take (d .end - d .at) (drop (d .at) input)) < numbers
-part-countable d input l held = omega (arith, part-long d input (held .kept), held .countable, held .kept .there, held .long)
 
 pub printed-within : (d : Reading) (input : List ℕ) (l : Lists) (k : Desk) (to : List ℕ) (p : Page) (l′ : Lists) (to′ : List ℕ) → Held d input l → Printed (take (d .end - d .at) (drop (d .at) input)) k (d .records) to p l′ to′ → Within d p
 printed-within d input l k to p l′ to′ held printed =

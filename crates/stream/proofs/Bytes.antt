@@ -6,10 +6,9 @@ use Rattle.ring.specs.declared.Point.{Point}
 use Rattle.ring.specs.Rings.{Weight, Antisymmetric}
 use Rattle.districts.specs.Register.{Register}
 use Rattle.register.specs.Calls.{means, formed}
-use Rattle.tally.specs.declared.Tally.{Tally}
 use Rattle.tally.specs.Tally.{fresh, sum, run, accepted}
 use Rattle.tally.proofs.Totals.{sum-counts}
-use Rattle.history.specs.Histories.{Call, founding, splitting, merging, reporting, empty, step, after}
+use Rattle.history.specs.Histories.{Call, founding, splitting, merging, reporting, empty, after}
 use Rattle.history.specs.Adding.{sumOver, slotSum, slotWinding, ClearOf}
 use Rattle.history.specs.Limits.{Within}
 use Rattle.history.proofs.Balanced.{districts-add-up}

@@ -9,9 +9,7 @@ use lib.Seq.{drop-drop}
 use Rattle.register.specs.Calls.{Lists, formed, means}
 use Rattle.tally.specs.declared.Tally.{Tally}
 use Rattle.history.specs.Histories.{Call}
-use Rattle.records.specs.Layout.{front, whole}
 use Rattle.records.proofs.Sizes.{Size, whole-size}
-use Rattle.wording.specs.Text.{Laid}
 use Rattle.wording.specs.Lines.{line}
 use Rattle.wording.proofs.Laying.{joined, laid-as}
 use Rattle.applying.specs.Replies.{replied, kindOf}

@@ -21,7 +21,6 @@ use Rattle.applying.specs.Replies.{replied, kindOf}
 use Rattle.applying.specs.Advancing.{Told, answered, unfinished, unreadable, toldOf, toldFor, LeftFor, talliedFor, AdvancedBy}
 use Rattle.stream.specs.declared.Stop.{Stop}
 use Rattle.stream.specs.declared.Page.{Page}
-use Rattle.stream.specs.Progress.{deskOf}
 use Rattle.stream.specs.Printing.{Stopped, numbers, Wrote, TurnedBy}
 use Rattle.stream.proofs.Steps.{stepped, desk-next}
 

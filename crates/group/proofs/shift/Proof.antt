@@ -2,7 +2,7 @@
 use Prim.Native.Nat.{_+_, _-_, _<_}
 use native.Mathlib.Nat.{zero-add}
 use native.Mathlib.Omega.{arith}
-use mathlib.Core.Path.{ap, subst}
+use mathlib.Core.Path.{subst}
 use lib.ListN.{length, getD, set}
 use borrow.Author.Needs.{needs}
 use Rattle.room.proofs.Moving.{Moved, moved-none, moved-more, moved-all}

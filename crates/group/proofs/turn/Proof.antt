@@ -1,8 +1,7 @@
 -- `group::turn` meets its contract: printing takes no more than the buffer holds. Assumes nothing.
 use native.Mathlib.Omega.{arith}
 use borrow.Author.Needs.{needs}
-use Rattle.group.specs.Held.{Held}
-use Rattle.group.proofs.Keeping.{Within, part-countable, printed-within}
+use Rattle.group.proofs.Keeping.{Within, printed-within}
 use Rattle.group.proofs.turn.Statement.{statement}
 use Rattle.group.proofs.turn.Tie as tie
 

@@ -1,7 +1,6 @@
 -- `stream::reading::one` meets its contract: a whole record is a step, otherwise nothing changes. Assumes nothing.
 use native.Mathlib.Omega.{arith}
 use borrow.Author.Needs.{needs}
-use Rattle.stream.specs.Progress.{Progress}
 use Rattle.stream.proofs.Steps.{seen-from, taken-there, turn-ends, turn-goes}
 use Rattle.stream.proofs.reading.one.Statement.{statement}
 use Rattle.stream.proofs.reading.one.Tie as tie
