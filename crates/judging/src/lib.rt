@@ -1,6 +1,5 @@
 // Whether a change of the districts is refused, and why; no function changes a list. It also has the answers that changes give. The calls
-// for everybody are in `changes`; here only `split`, `merge` and `refusal_number`
-// have no `requires`.
+// for everybody are in `changes`; here only `split`, `merge` and `refusal_number` have no `requires`.
 mod matching;
 mod splits;
 

@@ -1,6 +1,6 @@
 -- A stream that is cut anywhere: the records of its first part, then those of what is left of it with the rest behind. So it does not matter how
 -- the grouping program's reads divide its input. Assumes nothing.
-use Prim.Native.Nat.{ℕ, zero, suc, _≤_}
+use Prim.Native.Nat.{ℕ, zero, suc, _+_, _≤_}
 use native.Mathlib.Omega.{arith}
 use mathlib.Core.Path.{_≡_, refl, sym, ap, _∙_}
 use mathlib.Core.List.{List, _∷_, _++_}
@@ -12,8 +12,10 @@ use Rattle.records.proofs.Fronts.{front-short}
 use Rattle.records.proofs.Sizes.{whole-size}
 use Rattle.records.proofs.Longer.{whole-longer, broken-longer}
 use Rattle.stream.specs.Streams.{callsOf, leftOf}
+use Rattle.stream.specs.Desks.{Desk, through, linesFrom}
 use Rattle.stream.specs.Progress.{Ended}
 use Rattle.stream.proofs.Unrolling.{calls-whole, left-whole, none-taken}
+use Rattle.stream.proofs.Pages.{lines-more}
 
 pub record Cut (first rest : List ℕ) : Type 0 where
   pub calls : callsOf (first ++ rest) ≡ callsOf first ++ callsOf (leftOf first ++ rest)
@@ -54,3 +56,7 @@ cut-anywhere first rest = cut-within (length first) first rest (omega arith)
 -- where a broken record stands at the front of what is left, no byte behind it is read
 pub broken-ends : (bytes rest : List ℕ) → front bytes ≡ broken → Ended (bytes ++ rest)
 broken-ends bytes rest e = none-taken (bytes ++ rest) broken (broken-longer bytes rest e) refl
+
+-- the lines of the pieces, one behind the other, are the lines of the whole
+pub cut-lines : (first rest : List ℕ) (n : ℕ) (k : Desk) → linesFrom n k (callsOf (first ++ rest)) ≡ linesFrom n k (callsOf first) ++ linesFrom (n + length (callsOf first)) (through k (callsOf first)) (callsOf (leftOf first ++ rest))
+cut-lines first rest n k = ap (linesFrom n k) (cut-anywhere first rest .calls) ∙ lines-more n k (callsOf first) (callsOf (leftOf first ++ rest))

@@ -1,5 +1,5 @@
--- How far a stream has been read: what the rest of it makes of the desk is what all of it makes of the opening. No public promise cites it.
--- Assumes nothing.
+-- How far a stream has been read: what the rest of it makes of the desk is what all of it makes of the opening. Of this only `deskOf` is
+-- cited by a public promise. Assumes nothing.
 use Prim.Native.Nat.{ℕ, _+_, _≤_, _<_}
 use mathlib.Core.Path.{_≡_}
 use mathlib.Core.Bool.{true, false}
