@@ -2,6 +2,7 @@ pub mod Pick
 pub mod Vertices
 pub mod OnGrid
 pub mod Quadrants
+pub mod Ranks
 pub mod Table
 pub mod Search
 pub mod Sums

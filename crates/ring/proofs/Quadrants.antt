@@ -17,7 +17,7 @@ use Rattle.ring.specs.Grid.{pick}
 use Rattle.ring.specs.Rings.{Antisymmetric}
 use Rattle.ring.specs.Turns.{northEast, northWest, southWest, southEast, quadrant, determinant, twice, turnsBy, quarterTurns}
 use Rattle.ring.specs.Segment.{same, between, onSegment}
-use Rattle.ring.specs.Table.{byDeterminant, entry, turnOf, count, isHere}
+use Rattle.ring.specs.Table.{byDeterminant, entry, turnOf, count}
 use Rattle.ring.proofs.Pick.{pick-true, pick-false}
 
 -- ---- the definitions by signs
@@ -166,20 +166,6 @@ linesBy x y = count (eastBy x y) + (count (northBy x y) + (count (westBy x y) + 
 pub one-line : (R P : Point) → same R P ≡ false → count (northEast R P) + (count (northWest R P) + (count (southWest R P) + count (southEast R P))) ≡ 1
 one-line R P e = (λ i. count (east-signs R P i) + (count (north-signs R P i) + (count (west-signs R P i) + count (south-signs R P i))))
     ∙ eqb→eq (seenAt linesBy R P) 1 (provided-yes (not (seenAt sameBy R P)) (λ _. eqb (seenAt linesBy R P) 1) (at-point (λ x y. provided (not (sameBy x y)) (λ _. eqb (linesBy x y) 1)) tt R P) (apart R P e))
-
--- the quadrant as a sum, which needs no branch: of the four lines and R itself exactly one fits
-abbrev atBy : Sign → Sign → Bool
-atBy x y = (not (isMinus x) && not (isPlus x)) && (not (isMinus y) && not (isPlus y))
-
-abbrev sumBy : Sign → Sign → ℕ
-sumBy x y = count (northBy x y) + 2 * count (westBy x y) + 3 * count (southBy x y) + 4 * count (atBy x y)
-
-pub quadrant-sum : (R P : Point) → count (northWest R P) + 2 * count (southWest R P) + 3 * count (southEast R P) + 4 * count (isHere R P) ≡ quadrant R P
-quadrant-sum R P =
-    (λ i. count (north-signs R P i) + 2 * count (west-signs R P i) + 3 * count (south-signs R P i)
-    + 4 * count ((le-sign (R .x) (P .x) i && ge-sign (R .x) (P .x) i) && (le-sign (R .y) (P .y) i && ge-sign (R .y) (P .y) i)))
-    ∙ eqb→eq (seenAt sumBy R P) (seenAt quadrantBy R P) (at-point (λ x y. eqb (sumBy x y) (quadrantBy x y)) tt R P)
-    ∙ sym (quadrant-signs R P)
 
 -- ---- quarter turns and the table
 

@@ -1,8 +1,8 @@
 -- What a walk that has gone along the first i edges of a ring has found, and that it is what document 01 asks for: at the start,
 -- after one edge more, when it meets a vertex, and when it has gone all the way round. Assumes nothing.
-use Prim.Native.Nat.{ℕ, suc, _+_, _%_, _≤_, _<_}
+use Prim.Native.Nat.{ℕ, suc, _+_, _≤_, _<_}
 use native.Mathlib.Decide.{ℕ-discrete}
-use native.Mathlib.Nat.{zero-add, mod-eq-of-lt}
+use native.Mathlib.Nat.{zero-add}
 use native.Mathlib.Numerals.{add-one}
 use native.Mathlib.Omega.{arith}
 use mathlib.Core.Path.{_≡_, sym, ap, subst, _∙_}
@@ -21,7 +21,6 @@ use Rattle.ring.specs.Turns.{quadrant, quarterTurns, winding}
 use Rattle.ring.specs.Locate.{vertex, edge, lowest, atVertex, onEdge, choose, locatedOn}
 use Rattle.ring.specs.Walk.{Stands, Gone}
 use Rattle.ring.proofs.Pick.{pick-true}
-use Rattle.ring.proofs.Vertices.{at-end}
 use Rattle.ring.proofs.Quadrants.{same-quadrant, quadrant-most, turns-few}
 use Rattle.ring.proofs.Search.{lowest-none, lowest-first, Noted, noted-none, noted-more, noted-all}
 
@@ -91,14 +90,8 @@ module _ (P : List Point) (R : Point) (n : ℕ) where
         (rw (lowest-first (atVertex P R) n m f h s)
         (sym (pick-true (lt-ltb m n h) _ _)))
 
-    -- the vertex after the last is the first, so a walk that meets R meets it before
-    pub meets-next : (i q : ℕ) (w : Walk) → i < n → Walked P R n i w → q ≡ quadrant R (at P (suc i)) → q ≡ 4 → vertex (suc i % n) ≡ locatedOn P R
-    meets-next i q w h l e f =
-        let s : same R (at P (suc i)) ≡ true = is-here R (at P (suc i)) q e f in
-        elim (ℕ-discrete (suc i) n) [
-          | yes t ↦ absurd (true≢false (sym s ∙ ap (λ k. same R (at P k)) (t ∙ sym size) ∙ ap (same R) (at-end P (omega arith)) ∙ l .away 0 (omega arith)))
-          | no t ↦ let k : suc i < n = omega arith in ap vertex (mod-eq-of-lt k) ∙ meets (suc i) k (λ k g. l .away k (omega arith)) s
-        ]
+    pub meets-next : (i q : ℕ) (w : Walk) → suc i < n → Walked P R n i w → q ≡ quadrant R (at P (suc i)) → q ≡ 4 → vertex (suc i) ≡ locatedOn P R
+    meets-next i q w h l e f = meets (suc i) h (λ k g. l .away k (omega arith)) (is-here R (at P (suc i)) q e f)
 
     -- the whole way round, and no vertex met
     pub walked-all : (w : Walk) → Walked P R n n w → choose n n (w .edge) (quotZ (w .turned .0) (pos 4)) ≡ locatedOn P R

@@ -1,9 +1,8 @@
 -- The four-by-four table of quarter turns as the code holds it, a number for each pair of quadrants with a mark where the determinant is needed;
--- and what the code counts to find a quadrant. No public promise cites it. Assumes nothing.
+-- the numbers by which the code finds a quadrant; and counting. No public promise cites it. Assumes nothing.
 use Prim.Native.Nat.{ℕ, zero, suc}
-use mathlib.Core.Bool.{Bool, true, false, _&&_}
-use lib.IntN.{ℤ, pos, negsuc, _-ℤ_}
-use lib.Signed.{leZ}
+use mathlib.Core.Bool.{Bool, true, false}
+use lib.IntN.{ℤ, pos, negsuc, _+ℤ_, _-ℤ_, _*ℤ_}
 use Rattle.ring.specs.declared.Point.{Point}
 
 -- the mark
@@ -29,6 +28,14 @@ abbrev pub count : Bool → ℕ
 count true = 1
 count false = 0
 
--- P is R, by comparisons
-abbrev pub isHere : Point → Point → Bool
-isHere R P = (leZ (R .x) (P .x) && leZ (P .x) (R .x)) && (leZ (R .y) (P .y) && leZ (P .y) (R .y))
+-- a number that grows with the first and, where that stays, with the second, if neither is beyond the grid
+abbrev pub rank : ℤ → ℤ → ℤ
+rank a b = pos 4294967296 *ℤ a +ℤ b
+
+-- the order of points from south to north and, in a row, from west to east
+abbrev pub byRow : Point → ℤ
+byRow P = rank (P .y) (P .x)
+
+-- the order of points from west to east and, in a column, from north to south
+abbrev pub byColumn : Point → ℤ
+byColumn P = rank (P .x) (pos 0 -ℤ P .y)

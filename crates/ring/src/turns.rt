@@ -4,13 +4,22 @@ use crate::Point;
 use crate::Quarters;
 use crate::Winding;
 ghost use mathlib.Core.Path.{_≡_};
-ghost use Prim.Native.Nat.{_≤_, _<_};
+ghost use Prim.Native.Nat.{_≤_};
 ghost use lib.IntN.{pos, natAbs, _+ℤ_};
 ghost use lib.Signed.{quotZ};
 ghost use Rattle.exact.specs.Sign.{sign};
-ghost use Rattle.ring.specs.Turns.{northWest, southWest, southEast, quadrant as quadrantOf, twice, oddly};
+ghost use Rattle.ring.specs.Turns.{quadrant as quadrantOf, twice, oddly};
 ghost use Rattle.ring.specs.Locate.{isOdd};
-ghost use Rattle.ring.specs.Table.{count, isHere};
+ghost use Rattle.ring.specs.Table.{rank as rankOf, byRow, byColumn};
+ghost use Rattle.ring.specs.Walk.{OnGrid};
+
+const NORTH_EAST: usize = 0;
+
+const NORTH_WEST: usize = 1;
+
+const SOUTH_WEST: usize = 2;
+
+const SOUTH_EAST: usize = 3;
 
 // What `quadrant` answers for r itself, which is in none.
 pub const NOWHERE: usize = 4;
@@ -34,45 +43,51 @@ pub const TURNS: [[Quarters; 4]; 4] = [
     [LEFT, HALF, RIGHT, NONE],
 ];
 
-// The lines of the table of quadrants, but for the first. The eager `&` leaves no branch.
-fn north_west(r: Point, p: Point) -> bool
-    ensures { λ t. ⌜ t ≡ northWest r p ⌝ }
+// More than any two coordinates of the grid are apart, so that the second number of a rank decides only where the first does not.
+const STEP: i64 = 4_294_967_296;
+
+// A number that grows with `first` and, where that stays, with `second`.
+fn rank(first: i64, second: i64) -> i64
+    requires { ⌜ natAbs first ≤ 1000000000 ⌝ }
+    requires { ⌜ natAbs second ≤ 1000000000 ⌝ }
+    ensures { λ k. ⌜ k ≡ rankOf first second ⌝ }
 {
-    (p.x <= r.x) & (r.y < p.y)
+    STEP * first + second
 }
 
-fn south_west(r: Point, p: Point) -> bool
-    ensures { λ t. ⌜ t ≡ southWest r p ⌝ }
+// The order of points from south to north and, in a row, from west to east: r comes before its quadrants 0 and 1 and after 2 and 3.
+fn by_row(p: Point) -> i64
+    requires { ⌜ OnGrid p ⌝ }
+    ensures { λ k. ⌜ k ≡ byRow p ⌝ }
 {
-    (p.x < r.x) & (p.y <= r.y)
+    rank(p.y as i64, p.x as i64)
 }
 
-fn south_east(r: Point, p: Point) -> bool
-    ensures { λ t. ⌜ t ≡ southEast r p ⌝ }
+// The order of points from west to east and, in a column, from north to south: r comes after its quadrants 1 and 2 and before 3 and 0.
+fn by_column(p: Point) -> i64
+    requires { ⌜ OnGrid p ⌝ }
+    ensures { λ k. ⌜ k ≡ byColumn p ⌝ }
 {
-    (r.x <= p.x) & (p.y < r.y)
+    rank(p.x as i64, -(p.y as i64))
 }
 
-fn here(r: Point, p: Point) -> bool
-    ensures { λ t. ⌜ t ≡ isHere r p ⌝ }
-{
-    ((r.x <= p.x) & (p.x <= r.x)) & ((r.y <= p.y) & (p.y <= r.y))
-}
-
-fn counted(test: bool) -> usize
-    ensures { λ k. ⌜ (k ≡ count test) × (k ≤ 1) ⌝ }
-{
-    test as usize
-}
-
-// The quadrant of p as seen from r, with no branch: of the lines of the table and r itself exactly one fits.
+// The quadrant of p as seen from r. Two comparisons tell it where the table of document 01 has eight, and the ranks of r stay the same all the
+// way round a ring.
 pub fn quadrant(r: Point, p: Point) -> usize
+    requires { ⌜ OnGrid r ⌝ }
+    requires { ⌜ OnGrid p ⌝ }
     ensures { λ q. ⌜ q ≡ quadrantOf r p ⌝ }
 {
-    counted(north_west(r, p))
-        + 2 * counted(south_west(r, p))
-        + 3 * counted(south_east(r, p))
-        + NOWHERE * counted(here(r, p))
+    let row = by_row(p);
+    let own = by_row(r);
+    if (row <= own) & (own <= row) {
+        return NOWHERE;
+    }
+    let west = by_column(p) < by_column(r);
+    if row < own {
+        return if west { SOUTH_WEST } else { SOUTH_EAST };
+    }
+    if west { NORTH_WEST } else { NORTH_EAST }
 }
 
 // The half turn on the side that the determinant tells; none where it is 0.

@@ -114,16 +114,18 @@ pub fn locate_on(ring: &[i32], n: usize, r: Point) -> Located
         edge: n,
     };
     let table = turns::TURNS;
+    let last = n - 1;
     let mut i = 0;
-    while i < n {
-        let ahead = grid::next(i, n);
+    while i < last {
+        let ahead = i + 1;
         let to = turns::quadrant(r, grid::vertex(ring, ahead));
         if to == turns::NOWHERE {
             return Located::Vertex(ahead);
         }
         let from = walk.quadrant;
         walk = along(ring, n, r, i, walk, to, table[from][to]);
-        i += 1;
+        i = ahead;
     }
-    settle(walk, n)
+    let from = walk.quadrant;
+    settle(along(ring, n, r, i, walk, start, table[from][start]), n)
 }

@@ -1,83 +1,110 @@
--- `ring::turns::quadrant` adds up the tests, of which exactly one passes (`quadrant-sum`). Assumes nothing.
-use Prim.Native.Nat.{_+_, _*_}
-use mathlib.Core.Path.{ap, _∙_}
+-- `ring::turns::quadrant` chooses by the tests of the two ranks what the table of document 01 says (`chosen-quadrant`). Assumes nothing.
+use mathlib.Core.Path.{_≡_, refl}
+use mathlib.Core.Bool.{Bool, true, false}
+use lib.Signed.{ltZ}
+use mir.Syntax.{w64}
+use mir.Val.{SFits}
+use mir.Facts.{toZ-ofZ}
 use borrow.Author.Needs.{needs}
-use Rattle.ring.specs.Table.{count}
-use Rattle.ring.proofs.Quadrants.{quadrant-sum}
+use Rattle.ring.specs.Table.{byColumn}
+use Rattle.ring.specs.Turns.{quadrant}
+use Rattle.ring.proofs.Ranks.{chosen, chosen-quadrant}
 use Rattle.ring.proofs.turns.quadrant.Statement.{statement}
 use Rattle.ring.proofs.turns.quadrant.Tie as tie
 
-north-west-requires : tie.Need-north-west-requires
-north-west-requires c κs = search needs
+by-row-requires : tie.Need-by-row-requires
+by-row-requires c κs = search needs
 
-counted-requires : tie.Need-counted-requires
-counted-requires c κs = search needs
+by-row-requires-2 : tie.Need-by-row-requires-2
+by-row-requires-2 c κs = search needs
 
-south-west-requires : tie.Need-south-west-requires
-south-west-requires c κs = search needs
+rows-fit : (c : tie.After-by-row2) → SFits w64 (c .before .by-row .result) × SFits w64 (c .by-row2 .result)
+rows-fit c = (search needs, search needs)
 
-counted-requires-2 : tie.Need-counted-requires-2
-counted-requires-2 c κs = search needs
-
-mul-result : tie.Need-mul-result
-mul-result c = search needs
-
-add-result : tie.Need-add-result
-add-result c = search needs
-
-south-east-requires : tie.Need-south-east-requires
-south-east-requires c κs = search needs
-
-counted-requires-3 : tie.Need-counted-requires-3
-counted-requires-3 c κs = search needs
-
-mul-result-2 : tie.Need-mul-result-2
-mul-result-2 c = search needs
-
-add-result-2 : tie.Need-add-result-2
-add-result-2 c = search needs
-
-here-requires : tie.Need-here-requires
-here-requires c κs = search needs
-
-counted-requires-4 : tie.Need-counted-requires-4
-counted-requires-4 c κs = search needs
-
-mul-result-3 : tie.Need-mul-result-3
-mul-result-3 c = search needs
-
-add-result-3 : tie.Need-add-result-3
-add-result-3 c = search needs
+columns-fit : (c : tie.After-by-column2) → SFits w64 (c .before .by-column .result) × SFits w64 (c .by-column2 .result)
+columns-fit c = (search needs, search needs)
 
 returns : tie.Need-returns
 returns c =
-    let third = c .before .before in
-    let second = third .before .before in
-    let first = second .before .before in
-    let a = first .before .before .args in
-    (λ i.
-    (first .counted .ensures .0 ∙ ap count (first .before .north-west .ensures)) i
-    + 2 * (second .counted2 .ensures .0 ∙ ap count (second .before .south-west .ensures)) i
-    + 3 * (third .counted3 .ensures .0 ∙ ap count (third .before .south-east .ensures)) i
-    + 4 * (c .counted4 .ensures .0 ∙ ap count (c .before .here .ensures)) i)
-    ∙ quadrant-sum (a .r) (a .p)
+    let a = c .before .before .before in
+    let fit = rows-fit (c .before) in
+    chosen-quadrant (a .args .r) (a .args .p) (a .pre .0) (a .pre .1) (c .before .before .by-row .result) (c .before .by-row2 .result) (byColumn (a .args .p)) (byColumn (a .args .r))
+    (c .before .before .by-row .ensures)
+    (c .before .by-row2 .ensures)
+    refl
+    refl
+    true
+    _
+    _
+    (simp (toZ-ofZ (fit .0), toZ-ofZ (fit .1)) at (c .if1 .taken))
+    refl
+    refl
+
+by-column-requires : tie.Need-by-column-requires
+by-column-requires c κs = search needs
+
+by-column-requires-2 : tie.Need-by-column-requires-2
+by-column-requires-2 c κs = search needs
+
+-- the quadrant of a point that is not r, by the two tests that are left
+chosen-away : (c : tie.After-by-column2) (south west : Bool)
+    → ltZ (c .before .before .before .before .by-row .result) (c .before .before .before .by-row2 .result) ≡ south
+    → ltZ (c .before .by-column .result) (c .by-column2 .result) ≡ west
+    → chosen false south west ≡ quadrant (c .before .before .before .before .before .args .r) (c .before .before .before .before .before .args .p)
+chosen-away c south west s w =
+    let rows = c .before .before .before in
+    let a = rows .before .before in
+    let fit = rows-fit rows in
+    chosen-quadrant (a .args .r) (a .args .p) (a .pre .0) (a .pre .1) (rows .before .by-row .result) (rows .by-row2 .result) (c .before .by-column .result) (c .by-column2 .result)
+    (rows .before .by-row .ensures)
+    (rows .by-row2 .ensures)
+    (c .before .by-column .ensures)
+    (c .by-column2 .ensures)
+    false
+    south
+    west
+    (simp (toZ-ofZ (fit .0), toZ-ofZ (fit .1)) at (c .before .before .if1 .left))
+    s
+    w
+
+returns-2 : tie.Need-returns-2
+returns-2 c =
+    let both = c .before .before in
+    let rows = rows-fit (both .before .before .before) in
+    let columns = columns-fit both in
+    chosen-away both true true (simp (toZ-ofZ (rows .0), toZ-ofZ (rows .1)) at (c .before .if2 .taken)) (simp (toZ-ofZ (columns .0), toZ-ofZ (columns .1)) at (c .if3 .taken))
+
+returns-3 : tie.Need-returns-3
+returns-3 c =
+    let both = c .before .before in
+    let rows = rows-fit (both .before .before .before) in
+    let columns = columns-fit both in
+    chosen-away both true false (simp (toZ-ofZ (rows .0), toZ-ofZ (rows .1)) at (c .before .if2 .taken)) (simp (toZ-ofZ (columns .0), toZ-ofZ (columns .1)) at (c .if3 .left))
+
+returns-4 : tie.Need-returns-4
+returns-4 c =
+    let both = c .before .before in
+    let rows = rows-fit (both .before .before .before) in
+    let columns = columns-fit both in
+    chosen-away both false true (simp (toZ-ofZ (rows .0), toZ-ofZ (rows .1)) at (c .before .if2 .left)) (simp (toZ-ofZ (columns .0), toZ-ofZ (columns .1)) at (c .if4 .taken))
+
+returns-5 : tie.Need-returns-5
+returns-5 c =
+    let both = c .before .before in
+    let rows = rows-fit (both .before .before .before) in
+    let columns = columns-fit both in
+    chosen-away both false false (simp (toZ-ofZ (rows .0), toZ-ofZ (rows .1)) at (c .before .if2 .left)) (simp (toZ-ofZ (columns .0), toZ-ofZ (columns .1)) at (c .if4 .left))
 
 pub quadrant-spec : {M : Type 1} → statement M
 quadrant-spec =
     tie.close
     (tie.spec
-    north-west-requires
-    counted-requires
-    south-west-requires
-    counted-requires-2
-    mul-result
-    add-result
-    south-east-requires
-    counted-requires-3
-    mul-result-2
-    add-result-2
-    here-requires
-    counted-requires-4
-    mul-result-3
-    add-result-3
-    returns)
+    by-row-requires
+    by-row-requires-2
+    returns
+    by-column-requires
+    by-column-requires-2
+    returns-2
+    returns-3
+    returns-4
+    returns-5)
