@@ -114,9 +114,8 @@ pub fn locate_on(ring: &[i32], n: usize, r: Point) -> Located
         edge: n,
     };
     let table = turns::TURNS;
-    let last = n - 1;
     let mut i = 0;
-    while i < last {
+    while i + 1 < n {
         let ahead = i + 1;
         let to = turns::quadrant(r, grid::vertex(ring, ahead));
         if to == turns::NOWHERE {

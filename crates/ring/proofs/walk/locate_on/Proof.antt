@@ -19,10 +19,10 @@ use Rattle.ring.proofs.walk.locate_on.Statement.{statement}
 use Rattle.ring.proofs.walk.locate_on.Tie as tie
 
 abbrev Inv-loop : tie.InvT-loop
-Inv-loop ring n r start walk₀ table last i₀ walk i = Walked (vertices ring) r n i walk × (i < n)
+Inv-loop ring n r start walk₀ table i₀ walk i = Walked (vertices ring) r n i walk × (i < n)
 
 abbrev μ-loop : tie.MeasureT-loop
-μ-loop ring n r start walk₀ table last i₀ walk i = n - i
+μ-loop ring n r start walk₀ table i₀ walk i = n - i
 
 -- the ring has n vertices
 size : (c : tie.Start Inv-loop μ-loop) → length (vertices (c .args .ring .now)) ≡ c .args .n
@@ -47,9 +47,6 @@ returns c =
     meets P (start .args .r) (start .args .n) (size start) 0 (omega (arith, start .pre .least)) (λ k h. absurd (omega arith))
     (is-here (start .args .r) (at P 0) _ (first-quadrant (c .before)) (c .if1 .taken))
 
-sub-last : tie.Need-sub-last Inv-loop μ-loop
-sub-last c = omega (arith, c .before .before .before .pre .least)
-
 loop-holds : tie.Need-loop-holds Inv-loop μ-loop
 loop-holds c =
     let start = c .before .before .before in
@@ -60,6 +57,9 @@ stands : (c : tie.At-loop Inv-loop μ-loop) → Stands (vertices (c .before .bef
 stands c =
     let start = c .before .before .before .before in
     standing (vertices (start .args .ring .now)) (start .args .r) (start .args .n) (c .loop .i) (c .loop .walk) (start .pre .most) (c .loop .inv .0)
+
+add-loop : tie.Need-add-loop Inv-loop μ-loop
+add-loop c = omega (arith, c .loop .inv .1, c .before .before .before .before .pre .most)
 
 -- within the loop there is a vertex after i
 ahead : (c : tie.In-loop Inv-loop μ-loop) → suc (c .before .loop .i) < c .before .before .before .before .before .args .n
@@ -197,8 +197,8 @@ locate-on-spec =
     vertex-requires
     quadrant-requires
     returns
-    sub-last
     loop-holds
+    add-loop
     add-ahead
     vertex-requires-2
     quadrant-requires-2
