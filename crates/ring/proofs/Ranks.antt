@@ -3,17 +3,19 @@ use Prim.Native.Nat.{ℕ, zero, suc, _+_, _<_, _≤_}
 use native.Mathlib.Omega.{arith}
 use mathlib.Core.Path.{_≡_, refl, sym, ap, _∙_}
 use mathlib.Core.Bool.{Bool, not, _&&_}
+use mathlib.Core.List.{[], _∷_}
 use lib.Dec.{eqb, eqb→eq}
 use lib.IntN.{ℤ, pos, negsuc, negℤ, natAbs, _-ℤ_, _*ℤ_}
 use lib.Signed.{ltZ, leZ}
 use Rattle.exact.specs.Sign.{Sign, minus, nought, plus, sign}
-use Rattle.exact.proofs.Parts.{up as above, down as below, parts-add, parts-sub, parts-neg, parts-mul, by-parts}
+use Rattle.exact.proofs.Parts.{up as above, down as below, parts-add, parts-mul, by-parts}
 use Rattle.exact.proofs.Bounds.{natAbs-sub}
+use Rattle.exact.proofs.Poly.{var, num, add, sub, mul, neg, identity}
 use Rattle.exact.proofs.Signs.{flip, isPlus, isMinus, sign-neg, gt-sign, le-sign, ge-sign}
 use Rattle.ring.specs.declared.Point.{Point}
 use Rattle.ring.specs.Grid.{pick}
 use Rattle.ring.specs.Turns.{quadrant}
-use Rattle.ring.specs.Table.{rank, byRow, byColumn}
+use Rattle.ring.specs.Table.{step, rank, byRow, byColumn}
 use Rattle.ring.specs.Walk.{OnGrid}
 use Rattle.ring.proofs.Quadrants.{across, up, seenAt, at-point, quadrantBy, quadrant-signs}
 
@@ -37,26 +39,17 @@ size (pos n) = omega arith
 size (negsuc n) = omega arith
 
 rank-sign : (a b : ℤ) → natAbs b ≤ 2000000000 → sign (rank a b) ≡ first (sign a) (sign b)
-rank-sign (pos zero) b h = ap sign (by-parts (rank (pos 0) b) b (omega (arith, parts-add (pos 4294967296 *ℤ pos 0) b, parts-mul (pos 4294967296) (pos 0))))
-rank-sign (pos (suc n)) b h = is-plus (rank (pos (suc n)) b) (omega (arith, size b, parts-add (pos 4294967296 *ℤ pos (suc n)) b, parts-mul (pos 4294967296) (pos (suc n))))
-rank-sign (negsuc n) b h = is-minus (rank (negsuc n) b) (omega (arith, size b, parts-add (pos 4294967296 *ℤ negsuc n) b, parts-mul (pos 4294967296) (negsuc n)))
+rank-sign (pos zero) b h = ap sign (by-parts (rank (pos 0) b) b (omega (arith, parts-add (step *ℤ pos 0) b, parts-mul step (pos 0))))
+rank-sign (pos (suc n)) b h = is-plus (rank (pos (suc n)) b) (omega (arith, size b, parts-add (step *ℤ pos (suc n)) b, parts-mul step (pos (suc n))))
+rank-sign (negsuc n) b h = is-minus (rank (negsuc n) b) (omega (arith, size b, parts-add (step *ℤ negsuc n) b, parts-mul step (negsuc n)))
 
 rank-sub : (a b c d : ℤ) → rank a b -ℤ rank c d ≡ rank (a -ℤ c) (b -ℤ d)
-rank-sub a b c d = by-parts (rank a b -ℤ rank c d) (rank (a -ℤ c) (b -ℤ d)) (omega (
-  arith,
-  parts-sub (rank a b) (rank c d),
-  parts-add (pos 4294967296 *ℤ a) b,
-  parts-add (pos 4294967296 *ℤ c) d,
-  parts-add (pos 4294967296 *ℤ (a -ℤ c)) (b -ℤ d),
-  parts-mul (pos 4294967296) a,
-  parts-mul (pos 4294967296) c,
-  parts-mul (pos 4294967296) (a -ℤ c),
-  parts-sub a c,
-  parts-sub b d,
-))
+rank-sub a b c d = identity (a ∷ b ∷ c ∷ d ∷ [])
+    (sub (add (mul (num step) (var 0)) (var 1)) (add (mul (num step) (var 2)) (var 3)))
+    (add (mul (num step) (sub (var 0) (var 2))) (sub (var 1) (var 3))) tt
 
 flip-sub : (x y : ℤ) → (pos 0 -ℤ x) -ℤ (pos 0 -ℤ y) ≡ negℤ (x -ℤ y)
-flip-sub x y = by-parts ((pos 0 -ℤ x) -ℤ (pos 0 -ℤ y)) (negℤ (x -ℤ y)) (omega (arith, parts-sub (pos 0 -ℤ x) (pos 0 -ℤ y), parts-sub (pos 0) x, parts-sub (pos 0) y, parts-neg (x -ℤ y), parts-sub x y))
+flip-sub x y = identity (x ∷ y ∷ []) (sub (sub (num (pos 0)) (var 0)) (sub (num (pos 0)) (var 1))) (neg (sub (var 0) (var 1))) tt
 
 row-sign : (R P : Point) → OnGrid R → OnGrid P → sign (byRow P -ℤ byRow R) ≡ first (up R P) (across R P)
 row-sign R P r p =

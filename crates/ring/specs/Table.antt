@@ -1,5 +1,5 @@
 -- The four-by-four table of quarter turns as the code holds it, a number for each pair of quadrants with a mark where the determinant is needed;
--- the numbers by which the code finds a quadrant; and counting. No public promise cites it. Assumes nothing.
+-- the numbers by which the code finds a quadrant; and counting. Of this only `count` is cited by a public promise. Assumes nothing.
 use Prim.Native.Nat.{ℕ, zero, suc}
 use mathlib.Core.Bool.{Bool, true, false}
 use lib.IntN.{ℤ, pos, negsuc, _+ℤ_, _-ℤ_, _*ℤ_}
@@ -28,9 +28,13 @@ abbrev pub count : Bool → ℕ
 count true = 1
 count false = 0
 
+-- more than any two coordinates of the grid are apart
+abbrev pub step : ℤ
+step = pos 4_294_967_296
+
 -- a number that grows with the first and, where that stays, with the second, if neither is beyond the grid
 abbrev pub rank : ℤ → ℤ → ℤ
-rank a b = pos 4294967296 *ℤ a +ℤ b
+rank a b = step *ℤ a +ℤ b
 
 -- the order of points from south to north and, in a row, from west to east
 abbrev pub byRow : Point → ℤ

@@ -71,8 +71,8 @@ fn by_column(p: Point) -> i64
     rank(p.x as i64, -(p.y as i64))
 }
 
-// The quadrant of p as seen from r. Two comparisons tell it where the table of document 01 has eight, and the ranks of r stay the same all the
-// way round a ring.
+// The quadrant of p as seen from r, by their ranks: two numbers to compare where the table of document 01 has eight comparisons, and those of r
+// stay the same all the way round a ring.
 pub fn quadrant(r: Point, p: Point) -> usize
     requires { ⌜ OnGrid r ⌝ }
     requires { ⌜ OnGrid p ⌝ }

@@ -1,12 +1,12 @@
 -- STEP times a coordinate of the grid, and another one more, stay far below 2 ^ 63. Assumes nothing.
 use native.Mathlib.Nat.{le-refl}
-use lib.IntN.{pos, _*ℤ_}
+use lib.IntN.{_*ℤ_}
 use mir.Syntax.{w64}
 use mir.Val.{SFits}
 use mir.Facts.{toZ-ofZ}
 use borrow.Author.Needs.{needs}
 use Rattle.exact.proofs.Bounds.{within-mul, within-add, mul-within}
-use Rattle.ring.specs.Table.{rank}
+use Rattle.ring.specs.Table.{step, rank}
 use Rattle.ring.proofs.turns.rank.Statement.{statement}
 use Rattle.ring.proofs.turns.rank.Tie as tie
 
@@ -16,13 +16,13 @@ first-fits c = search needs
 second-fits : (c : tie.Start) → SFits w64 (c .args .second)
 second-fits c = search needs
 
-product-fits : (c : tie.Start) → SFits w64 (pos 4294967296 *ℤ c .args .first)
-product-fits c = within-mul w64 (pos 4294967296) (c .args .first) 4294967296 1000000000 (le-refl 4294967296) (c .pre .0) tt
+product-fits : (c : tie.Start) → SFits w64 (step *ℤ c .args .first)
+product-fits c = within-mul w64 step (c .args .first) 4294967296 1000000000 (le-refl 4294967296) (c .pre .0) tt
 
 rank-fits : (c : tie.Start) → SFits w64 (rank (c .args .first) (c .args .second))
 rank-fits c =
-    within-add w64 (pos 4294967296 *ℤ c .args .first) (c .args .second) 4294967296000000000 1000000000
-    (mul-within (pos 4294967296) (c .args .first) 4294967296 1000000000 4294967296000000000 (le-refl 4294967296) (c .pre .0) tt)
+    within-add w64 (step *ℤ c .args .first) (c .args .second) 4294967296000000000 1000000000
+    (mul-within step (c .args .first) 4294967296 1000000000 4294967296000000000 (le-refl 4294967296) (c .pre .0) tt)
     (c .pre .1)
     tt
 

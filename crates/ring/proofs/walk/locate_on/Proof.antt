@@ -171,7 +171,7 @@ along-requires-2 c κs =
     let start = turn .before .before .before .before in
     let here = stands turn in
     let to = start-away (c .before) in
-    (start .pre, (turn .loop .inv .1, (here, (closing-quadrant (c .before), (to, entry-at _ (turn .loop .walk .quadrant) (turn .before .before .quadrant .result) (here .away) to)))))
+    (start .pre, (omega (arith, turn .loop .inv .1), (here, (closing-quadrant (c .before), (to, entry-at _ (turn .loop .walk .quadrant) (turn .before .before .quadrant .result) (here .away) to)))))
 
 settle-requires : tie.Need-settle-requires Inv-loop μ-loop
 settle-requires c κs = search needs
