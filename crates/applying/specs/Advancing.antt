@@ -6,6 +6,7 @@ use mathlib.Core.List.{List}
 use lib.IntN.{ℤ}
 use Rattle.districts.specs.Register.{Register}
 use Rattle.register.specs.Calls.{Lists, formed, means, written}
+use Rattle.positions.specs.declared.Position.{Position}
 use Rattle.tally.specs.declared.Tally.{Tally}
 use Rattle.history.specs.Histories.{reporting}
 use Rattle.wording.specs.Lines as Lines
@@ -44,10 +45,10 @@ LeftFor more before after = before ≡ after
 LeftFor broken before after = before ≡ after
 
 -- a report is answered and counted; the lists are lent unchangeable
-pub record ReportedBy (r : Advanced) (bytes number : ℕ) (x y : ℤ) (t : Tally) (l : Lists) : Type 0 where
-  pub told : toldOf (r .told) ≡ answered (Lines.report number) (replied (formed l) (means l) t (reporting number x y))
+pub record ReportedBy (r : Advanced) (bytes number : ℕ) (p : Position) (t : Tally) (l : Lists) : Type 0 where
+  pub told : toldOf (r .told) ≡ answered (Lines.report number) (replied (formed l) (means l) t (reporting number p))
   pub taken : r .taken ≡ bytes
-  pub tally : r .tally ≡ talliedBy (formed l) (means l) t (reporting number x y)
+  pub tally : r .tally ≡ talliedBy (formed l) (means l) t (reporting number p)
 
 -- the record is applied, its bytes are counted, and the lent coordinates start with its own; without a whole record nothing changes
 pub record AdvancedBy (r : Advanced) (f : Front) (t : Tally) (to to′ : List ℤ) (before after : Lists) : Type 0 where

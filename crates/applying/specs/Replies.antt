@@ -6,8 +6,8 @@ use Rattle.districts.specs.Answers as Answers
 use Rattle.districts.specs.Answers.{Answer, report}
 use Rattle.register.specs.Verdict.{Verdict, accept, refuse, verdict}
 use Rattle.register.specs.Founding.{foundTests}
-use Rattle.register.specs.Sorting.{assignTests, assigned}
 use Rattle.register.specs.Calls.{Lists, formed, means, Leaves}
+use Rattle.positions.specs.Placing.{placeTests, assignedAt}
 use Rattle.tally.specs.declared.Tally.{Tally}
 use Rattle.tally.specs.Tally.{tallied, answered}
 use Rattle.judging.specs.Answers as Changes
@@ -22,7 +22,7 @@ unfoldable pub judgedOn : Bool → Register → Call → Verdict
 judgedOn wellFormed g (founding xs) = verdict (foundTests wellFormed g xs)
 judgedOn wellFormed g (splitting d i j path) = verdict (splitTests wellFormed g d i j path)
 judgedOn wellFormed g (merging A a B b k) = verdict (mergeTests wellFormed g A a B b k)
-judgedOn wellFormed g (reporting r x y) = verdict (assignTests wellFormed g x y)
+judgedOn wellFormed g (reporting r p) = verdict (placeTests wellFormed g p)
 
 -- an accepted call is answered by what it has to say, a refused one by the refusal's number
 abbrev pub sayingOf : Verdict → Said → Said
@@ -44,21 +44,21 @@ unfoldable pub replied : Bool → Register → Tally → Call → Said
 replied wellFormed g t (founding xs) = sayingOf (judgedOn wellFormed g (founding xs)) ok
 replied wellFormed g t (splitting d i j path) = sayingOf (judgedOn wellFormed g (splitting d i j path)) (okWith (lowestUnused g))
 replied wellFormed g t (merging A a B b k) = sayingOf (judgedOn wellFormed g (merging A a B b k)) (okWith A)
-replied wellFormed g t (reporting r x y) = belonging (answered t (assigned wellFormed g r x y))
+replied wellFormed g t (reporting r p) = belonging (answered t (assignedAt wellFormed g r p))
 
 -- only reports are counted
 unfoldable pub talliedBy : Bool → Register → Tally → Call → Tally
 talliedBy wellFormed g t (founding xs) = t
 talliedBy wellFormed g t (splitting d i j path) = t
 talliedBy wellFormed g t (merging A a B b k) = t
-talliedBy wellFormed g t (reporting r x y) = tallied t (assigned wellFormed g r x y)
+talliedBy wellFormed g t (reporting r p) = tallied t (assignedAt wellFormed g r p)
 
 -- the word of a call's line
 abbrev pub kindOf : Call → Kind
 kindOf (founding xs) = outline
 kindOf (splitting d i j path) = split
 kindOf (merging A a B b k) = merge
-kindOf (reporting r x y) = Lines.report r
+kindOf (reporting r p) = Lines.report r
 
 -- what a call makes of the register, or, refused, the very lists
 abbrev pub Makes : Call → Lists → Lists → Type 0
@@ -69,7 +69,7 @@ abbrev pub LeftBy : Call → Lists → Lists → Type 0
 LeftBy (founding xs) before after = Makes (founding xs) before after
 LeftBy (splitting d i j path) before after = Makes (splitting d i j path) before after
 LeftBy (merging A a B b k) before after = Makes (merging A a B b k) before after
-LeftBy (reporting r x y) before after = before ≡ after
+LeftBy (reporting r p) before after = before ≡ after
 
 -- a change of the register answers and leaves this; the tally is not asked
 pub record ChangedBy (s : Said) (c : Call) (before after : Lists) : Type 0 where

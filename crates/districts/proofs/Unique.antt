@@ -4,7 +4,7 @@ use mathlib.Core.Path.{_≡_, refl, sym, ap, _∙_}
 use lib.Dec.{eqb}
 use Rattle.ring.specs.Grid.{pick}
 use Rattle.districts.specs.declared.Refusal.{Refusal}
-use Rattle.districts.specs.declared.Refusal.the-variants.{NotWellFormed, NoOutline, OutlineThere, NoRing, BeyondGrid, CountFull}
+use Rattle.districts.specs.declared.Refusal.the-variants.{NotWellFormed, NoOutline, OutlineThere, NoRing, BeyondGrid, CountFull, NotFinite, Missing}
 use Rattle.districts.specs.declared.Class.{Class}
 use Rattle.districts.specs.declared.Class.the-variants.{Border, One, None, Several}
 use Rattle.districts.specs.declared.Assigned.{Assigned}
@@ -13,7 +13,7 @@ use Rattle.districts.specs.Answers.{Belongs, border, one, none, several,
 
 -- document 01's numbers and values read back
 abbrev refusalOf : ℕ → Refusal
-refusalOf n = pick (eqb n 1) NotWellFormed (pick (eqb n 2) NoOutline (pick (eqb n 3) OutlineThere (pick (eqb n 4) NoRing (pick (eqb n 5) BeyondGrid CountFull))))
+refusalOf n = pick (eqb n 1) NotWellFormed (pick (eqb n 2) NoOutline (pick (eqb n 3) OutlineThere (pick (eqb n 4) NoRing (pick (eqb n 5) BeyondGrid (pick (eqb n 14) CountFull (pick (eqb n 18) NotFinite Missing))))))
 
 refusal-back : (r : Refusal) → refusalOf (numberOf r) ≡ r
 refusal-back NotWellFormed = refl
@@ -22,6 +22,8 @@ refusal-back OutlineThere = refl
 refusal-back NoRing = refl
 refusal-back BeyondGrid = refl
 refusal-back CountFull = refl
+refusal-back NotFinite = refl
+refusal-back Missing = refl
 
 pub numberOf-injective : (r s : Refusal) → numberOf r ≡ numberOf s → r ≡ s
 numberOf-injective r s e = sym (refusal-back r) ∙ ap refusalOf e ∙ refusal-back s

@@ -1,7 +1,7 @@
 -- Document 01's answers to a report, with the numbers of the refusals, and how the code's enums say them. Assumes nothing.
 use Prim.Native.Nat.{ℕ}
 use Rattle.districts.specs.declared.Refusal.{Refusal}
-use Rattle.districts.specs.declared.Refusal.the-variants.{NotWellFormed, NoOutline, OutlineThere, NoRing, BeyondGrid, CountFull}
+use Rattle.districts.specs.declared.Refusal.the-variants.{NotWellFormed, NoOutline, OutlineThere, NoRing, BeyondGrid, CountFull, NotFinite, Missing}
 use Rattle.districts.specs.declared.Class.{Class}
 use Rattle.districts.specs.declared.Class.the-variants.{Border, One, None, Several}
 use Rattle.districts.specs.declared.Assigned.{Assigned}
@@ -25,6 +25,8 @@ numberOf OutlineThere = 3
 numberOf NoRing = 4
 numberOf BeyondGrid = 5
 numberOf CountFull = 14
+numberOf NotFinite = 18
+numberOf Missing = 19
 
 abbrev pub belongs : Class → Belongs
 belongs (Border d) = border d

@@ -38,6 +38,8 @@ pub enum Refusal {
     NoRing,
     BeyondGrid,
     CountFull,
+    NotFinite,
+    Missing,
 }
 
 // Document 01's number of a refusal.
@@ -51,6 +53,8 @@ pub fn refusal_number(r: Refusal) -> usize
         Refusal::NoRing => 4,
         Refusal::BeyondGrid => 5,
         Refusal::CountFull => 14,
+        Refusal::NotFinite => 18,
+        Refusal::Missing => 19,
     }
 }
 

@@ -8,7 +8,8 @@ use Rattle.districts.specs.Counts.{listTo}
 use Rattle.districts.specs.Register.{unused, Register, numbers}
 use Rattle.register.specs.Verdict.{Verdict, accept, refuse, verdict}
 use Rattle.register.specs.Founding.{foundTests, founded}
-use Rattle.register.specs.Sorting.{assignTests}
+use Rattle.positions.specs.declared.Position.{Position}
+use Rattle.positions.specs.Placing.{placeTests}
 use Rattle.judging.specs.Splitting.{splitTests}
 use Rattle.changes.specs.Afterwards.{split, merge}
 use Rattle.judging.specs.Merging.{mergeTests}
@@ -18,7 +19,7 @@ pub data Call : Type 0 where
   founding : List ℤ → Call
   splitting : ℕ → ℕ → ℕ → List ℤ → Call
   merging : ℕ → ℕ → ℕ → ℕ → ℕ → Call
-  reporting : ℕ → ℤ → ℤ → Call
+  reporting : ℕ → Position → Call
 
 -- the register before any call
 unfoldable pub empty : Register
@@ -29,14 +30,14 @@ unfoldable pub judged : Register → Call → Verdict
 judged g (founding xs) = verdict (foundTests true g xs)
 judged g (splitting d i j path) = verdict (splitTests true g d i j path)
 judged g (merging A a B b k) = verdict (mergeTests true g A a B b k)
-judged g (reporting r x y) = verdict (assignTests true g x y)
+judged g (reporting r p) = verdict (placeTests true g p)
 
 -- what an accepted call makes of the register
 unfoldable pub made : Register → Call → Register
 made g (founding xs) = founded xs
 made g (splitting d i j path) = split g d i j (vertices path)
 made g (merging A a B b k) = merge g A a B b k
-made g (reporting r x y) = g
+made g (reporting r p) = g
 
 -- an accepted call leaves what it makes, a refused one what was there
 abbrev pub taken : Verdict → Register → Register → Register

@@ -7,8 +7,9 @@ use lib.IntN.{ℤ}
 use Rattle.districts.specs.declared.Assigned.{Assigned}
 use Rattle.districts.specs.Answers.{answerOf}
 use Rattle.register.specs.declared.Founded.{Founded}
-use Rattle.register.specs.Sorting.{assigned}
 use Rattle.register.specs.Calls.{Lists, formed, means, FoundBy}
+use Rattle.positions.specs.declared.Position.{Position}
+use Rattle.positions.specs.Placing.{assignedAt}
 use Rattle.judging.specs.declared.Changed.{Changed}
 use Rattle.changes.specs.Calls.{SplitBy, MergeBy}
 use Rattle.history.specs.Histories as Histories
@@ -19,27 +20,27 @@ pub data Turn : Type 0 where
   founding : List ℤ → Founded → Lists → Turn
   splitting : ℕ → ℕ → ℕ → List ℤ → Changed → Lists → Turn
   merging : ℕ → ℕ → ℕ → ℕ → ℕ → Changed → Lists → Turn
-  reporting : ℕ → ℤ → ℤ → Assigned → Turn
+  reporting : ℕ → Position → Assigned → Turn
 
 abbrev pub callOf : Turn → Call
 callOf (founding xs r m) = Histories.founding xs
 callOf (splitting d i j path r m) = Histories.splitting d i j path
 callOf (merging A a B b k r m) = Histories.merging A a B b k
-callOf (reporting r x y a) = Histories.reporting r x y
+callOf (reporting r p a) = Histories.reporting r p
 
 -- the lists after a turn
 abbrev pub leftBy : Lists → Turn → Lists
 leftBy l (founding xs r m) = m
 leftBy l (splitting d i j path r m) = m
 leftBy l (merging A a B b k r m) = m
-leftBy l (reporting r x y a) = l
+leftBy l (reporting r p a) = l
 
--- the turn is as the call promises: `register::found`, `changes::split`, `changes::merge`, `register::assign`
+-- the turn is as the call promises: `register::found`, `changes::split`, `changes::merge`, `positions::assign_at`
 abbrev pub Promised : Lists → Turn → Type 0
 Promised l (founding xs r m) = FoundBy r xs l m
 Promised l (splitting d i j path r m) = SplitBy r d i j path l m
 Promised l (merging A a B b k r m) = MergeBy r A a B b k l m
-Promised l (reporting r x y a) = answerOf a ≡ assigned (formed l) (means l) r x y
+Promised l (reporting r p a) = answerOf a ≡ assignedAt (formed l) (means l) r p
 
 unfoldable pub calls : List Turn → List Call
 calls [] = []

@@ -74,45 +74,17 @@ impl Both {
     }
 }
 
-// Document 01's numbers of the refusals.
-fn number_of(r: districts::Refusal) -> usize {
-    match r {
-        districts::Refusal::NotWellFormed => 1,
-        districts::Refusal::NoOutline => 2,
-        districts::Refusal::OutlineThere => 3,
-        districts::Refusal::NoRing => 4,
-        districts::Refusal::BeyondGrid => 5,
-        districts::Refusal::CountFull => 14,
-    }
-}
-
-fn number_of_change(r: judging::Refusal) -> usize {
-    match r {
-        judging::Refusal::NotWellFormed => 1,
-        judging::Refusal::NoOutline => 2,
-        judging::Refusal::OddPath => 4,
-        judging::Refusal::BeyondGrid => 5,
-        judging::Refusal::BadNumber => 6,
-        judging::Refusal::SameDistrict => 7,
-        judging::Refusal::BadIndex => 8,
-        judging::Refusal::TooFew => 9,
-        judging::Refusal::NoMatch => 10,
-        judging::Refusal::NumbersInUse => 11,
-        judging::Refusal::NoRoom => 12,
-    }
-}
-
 pub fn founded(f: Founded) -> Answer {
     match f {
         Founded::Done => Answer::of(DONE, 0),
-        Founded::Refused(r) => Answer::of(REFUSED, number_of(r)),
+        Founded::Refused(r) => Answer::of(REFUSED, districts::refusal_number(r)),
     }
 }
 
 pub fn changed(c: Changed) -> Answer {
     match c {
         Changed::Done(d) => Answer::of(DONE, d),
-        Changed::Refused(r) => Answer::of(REFUSED, number_of_change(r)),
+        Changed::Refused(r) => Answer::of(REFUSED, judging::refusal_number(r)),
     }
 }
 
@@ -140,7 +112,7 @@ fn reported(r: Report) -> Answer {
 pub fn assigned(a: Assigned) -> Answer {
     match a {
         Assigned::Sorted(r) => reported(r),
-        Assigned::Refused(r) => Answer::of(REFUSED, number_of(r)),
+        Assigned::Refused(r) => Answer::of(REFUSED, districts::refusal_number(r)),
     }
 }
 

@@ -11,14 +11,14 @@ use Rattle.records.specs.declared.Front as Code
 use Rattle.records.specs.declared.Front.the-variants.{Outline, Split, Merge, Report, More, Broken}
 use Rattle.records.specs.Layout.{Front, whole, more, broken}
 
--- the coordinates are read off the lent list; how many bytes a record has is told by its kind and by what it announces
-abbrev pub frontOf : Code.Front → List ℤ → Front
-frontOf (Outline n) to = whole (founding (take (2 * n) to)) (5 + 8 * n)
-frontOf (Split d i j k) to = whole (splitting d i j (take (2 * k) to)) (10 + 8 * k)
-frontOf (Merge A a B b k) to = whole (merging A a B b k) 11
-frontOf (Report s) to = whole (reporting (s .number) (s .x) (s .y)) 15
-frontOf More to = more
-frontOf Broken to = broken
+-- a record of so many bytes; the coordinates are read off the lent list
+abbrev pub frontOf : Code.Front → ℕ → List ℤ → Front
+frontOf (Outline n) taken to = whole (founding (take (2 * n) to)) taken
+frontOf (Split d i j k) taken to = whole (splitting d i j (take (2 * k) to)) taken
+frontOf (Merge A a B b k) taken to = whole (merging A a B b k) taken
+frontOf (Report s) taken to = whole (reporting (s .number) (s .position)) taken
+frontOf More taken to = more
+frontOf Broken taken to = broken
 
 -- how many bytes are taken
 abbrev pub takenFor : Front → ℕ
@@ -31,7 +31,7 @@ abbrev pub pairsOf : Call → List ℤ
 pairsOf (founding xs) = xs
 pairsOf (splitting d i j path) = path
 pairsOf (merging A a B b k) = []
-pairsOf (reporting r x y) = []
+pairsOf (reporting r p) = []
 
 abbrev pub writtenFor : Front → List ℤ
 writtenFor (whole c n) = pairsOf c
@@ -40,6 +40,6 @@ writtenFor broken = []
 
 -- the answer is what stands there, with its bytes counted, and the lent list starts with its coordinates and holds after them what it held
 pub record Decodes (r : Decoded) (f : Front) (before after : List ℤ) : Type 0 where
-  pub said : frontOf (r .front) after ≡ f
+  pub said : frontOf (r .front) (r .taken) after ≡ f
   pub counted : r .taken ≡ takenFor f
   pub left : after ≡ written (writtenFor f) before

@@ -3,12 +3,12 @@ mod decoding;
 mod fields;
 
 pub use decoding::decode;
+use positions::Position;
 
-// A report's number and point.
+// A report's number and position.
 pub struct Sighting {
     pub number: u32,
-    pub x: i32,
-    pub y: i32,
+    pub position: Position,
 }
 
 pub enum Front {

@@ -68,18 +68,10 @@ fn report_told(report: Report) -> Told {
 }
 
 fn refusal_told(r: Refusal) -> Told {
-    let number = match r {
-        Refusal::NotWellFormed => 1,
-        Refusal::NoOutline => 2,
-        Refusal::OutlineThere => 3,
-        Refusal::NoRing => 4,
-        Refusal::BeyondGrid => BEYOND_GRID,
-        Refusal::CountFull => COUNT_FULL,
-    };
     Told {
         what: REFUSED,
         district: 0,
-        many: number,
+        many: districts::refusal_number(r),
     }
 }
 

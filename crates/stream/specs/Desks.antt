@@ -5,7 +5,7 @@ use mathlib.Core.List.{List, [], _∷_, _++_}
 use lib.ListN.{length}
 use Rattle.districts.specs.Register.{Register}
 use Rattle.districts.specs.Answers.{Answer}
-use Rattle.register.specs.Sorting.{assigned}
+use Rattle.positions.specs.Placing.{assignedAt}
 use Rattle.tally.specs.declared.Tally.{Tally}
 use Rattle.tally.specs.Tally.{fresh, onesOf}
 use Rattle.history.specs.Histories.{Call, founding, splitting, merging, reporting, empty, step}
@@ -35,7 +35,7 @@ abbrev pub heard : Register → Call → List Answer → List Answer
 heard g (founding xs) rest = rest
 heard g (splitting d i j path) rest = rest
 heard g (merging A a B b k) rest = rest
-heard g (reporting r x y) rest = assigned true g r x y ∷ rest
+heard g (reporting r p) rest = assignedAt true g r p ∷ rest
 
 -- what assigning answers to the reports of a list of calls
 unfoldable pub answersFrom : Register → List Call → List Answer
