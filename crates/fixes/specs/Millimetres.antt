@@ -1,8 +1,8 @@
 -- The nearest millimetre, computed; proofs/Exactly.antt has that it is the one of Nearest.antt. Assumes nothing.
-use Prim.Native.Nat.{ℕ, suc, _+_, _*_, _/_, _%_}
+use Prim.Native.Nat.{ℕ, suc, _+_, _-_, _*_, _/_, _%_, _^_}
 use mathlib.Core.Path.{_≡_}
 use mathlib.Core.Bool.{Bool, true, false, not, _&&_, _||_}
-use lib.Dec.{ltb}
+use lib.Dec.{ltb, leb, eqb}
 use lib.IntN.{ℤ, pos}
 use lib.Ieee.{Float, nan, inf, fin, up, down}
 use Rattle.ring.specs.Grid.{pick, beyond}
@@ -32,3 +32,9 @@ placed easting northing =
 pub record StandsFor (v : ℤ) (x : Float) : Type 0 where
   pub far : beyond v ≡ beyond (millimetres x)
   pub near : beyond (millimetres x) ≡ false → v ≡ millimetres x
+
+-- the size in millimetres of a double by its exponent's field and its fraction; from 2 ^ 20 metres on, the first number beyond the grid
+abbrev pub sizeOf : ℕ → ℕ → ℕ
+sizeOf field fraction =
+    pick (leb 1043 field) 1000000001
+    (pick (eqb field 0) (rounded (inMetre * fraction) (2 ^ 1074)) (rounded (inMetre * (2 ^ 52 + fraction)) (2 ^ (1075 - field))))

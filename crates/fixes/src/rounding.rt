@@ -5,7 +5,7 @@ ghost use mathlib.Core.Bool.{true};
 ghost use Prim.Native.Nat.{_^_, _<_};
 ghost use lib.IntN.{pos};
 ghost use Rattle.fixes.specs.Nearest.{finite as isFinite};
-ghost use Rattle.fixes.specs.Millimetres.{rounded, StandsFor};
+ghost use Rattle.fixes.specs.Millimetres.{rounded, sizeOf, StandsFor};
 
 // 2^63, the sign's weight; 2^52, the weight of the exponent's field.
 const SIGN: u64 = 9_223_372_036_854_775_808;
@@ -47,4 +47,40 @@ fn divided(n: u64, s: u64) -> u64
         return whole + 1;
     }
     whole + whole % 2
+}
+
+// The size of a value in millimetres, by its field and fraction; of a far one, any number beyond the grid.
+fn size(field: u64, fraction: u64) -> u64
+    requires { ⌜ fraction < 2 ^ 52 ⌝ }
+    ensures { λ r. ⌜ r ≡ sizeOf field fraction ⌝ }
+{
+    if FAR <= field {
+        return BEYOND;
+    }
+    if field == 0 {
+        return divided(MILLIMETRES * fraction, SMALLEST);
+    }
+    divided(MILLIMETRES * (FIELD + fraction), BIAS - field)
+}
+
+pub fn finite(x: f64) -> bool
+    ensures { λ r. ⌜ r ≡ isFinite x ⌝ }
+{
+    if x != x {
+        return false;
+    }
+    f64::to_bits(x) % SIGN / FIELD < NOT_FINITE
+}
+
+// The nearest millimetre of a value in metres, or a number beyond the grid where that is.
+pub fn nearest(x: f64) -> i32
+    requires { ⌜ isFinite x ≡ true ⌝ }
+    ensures { λ r. ⌜ StandsFor r x ⌝ }
+{
+    let bits = f64::to_bits(x);
+    let n = size(bits % SIGN / FIELD, bits % FIELD) as i32;
+    if bits < SIGN {
+        return n;
+    }
+    0 - n
 }

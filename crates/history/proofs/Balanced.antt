@@ -102,7 +102,7 @@ module _ (f : Weight) (anti : Antisymmetric f) where
   keeps g (founding xs) b fine = founded-balanced xs
   keeps g (splitting d i j path) b fine = split-balanced g d i j path b fine
   keeps g (merging A a B k m) b fine = merge-balanced g A a B k m b fine
-  keeps g (reporting r x y) b fine = b
+  keeps g (reporting r p) b fine = b
 
   pub balanced : (cs : List Call) → Balanced f (after empty cs)
   balanced cs = every (Balanced f) keeps empty empty-balanced cs

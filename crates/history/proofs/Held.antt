@@ -42,7 +42,7 @@ unfolding step judged made
 turned l (founding xs r m) h p = kept (verdictOf r) (verdict (foundTests true (means l) xs)) (p .said ∙ ap (λ b. verdict (foundTests b (means l) xs)) h) (founded xs) l m h (p .left)
 turned l (splitting d i j path r m) h p = kept _ _ (ap (λ b. verdict (splitTests b (means l) d i j path)) h) (split (means l) d i j (vertices path)) l m h (p .left)
 turned l (merging A a B b k r m) h p = kept _ _ (ap (λ c. verdict (mergeTests c (means l) A a B b k)) h) (merge (means l) A a B b k) l m h (p .left)
-turned l (reporting r x y a) h p = (h, say (verdict (assignTests true (means l) x y)))
+turned l (reporting r q a) h p = (h, say (verdict (placeTests true (means l) q)))
   where
     say : (v : Verdict) → means l ≡ taken v (means l) (means l)
     say accept = refl

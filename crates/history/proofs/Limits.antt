@@ -252,7 +252,7 @@ unfolding made
 keeps g (founding xs) w fine = founded-within xs (found-told g xs fine)
 keeps g (splitting d i j path) w fine = split-within g d i j path w fine
 keeps g (merging A a B b k) w fine = merge-within g A a B b k w fine
-keeps g (reporting r x y) w fine = w
+keeps g (reporting r p) w fine = w
 
 pub within-limits : (cs : List Call) → Within (after empty cs)
 within-limits cs = every Within keeps empty empty-within cs
