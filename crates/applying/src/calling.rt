@@ -67,12 +67,13 @@ pub fn report(
     runs: &[u32],
     tally: Tally,
 ) -> Advanced
-    ensures { λ r. ⌜ ReportedBy r taken (s .number) (s .x) (s .y) tally (record { outline = now (outline .entry); store = now (store .entry); runs = now (runs .entry) }) ⌝ }
+    ensures { λ r. ⌜ ReportedBy r taken (s .number) (s .position) tally (record { outline = now (outline .entry); store = now (store .entry); runs = now (runs .entry) }) ⌝ }
 {
     let number = s.number;
+    let position = s.position;
     let outcome = tally::counted(
         tally,
-        register::assign(outline, store, runs, number, s.x, s.y),
+        positions::assign_at(outline, store, runs, number, position),
     );
     let answer = outcome.answer;
     let next = outcome.tally;

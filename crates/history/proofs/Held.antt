@@ -13,7 +13,10 @@ use Rattle.districts.specs.declared.Assigned.{Assigned}
 use Rattle.districts.specs.Register.{Register, slot}
 use Rattle.districts.specs.Answers.{answerOf}
 use Rattle.register.specs.Verdict.{Verdict, accept, refuse, verdict}
-use Rattle.register.specs.Sorting.{assigned, assignTests}
+use Rattle.register.specs.Sorting.{assigned}
+use Rattle.positions.specs.declared.Position.{Position}
+use Rattle.positions.specs.Placing.{isMissing, notFinite, eastOf, northOf, placeTests, assignedAt}
+use Rattle.positions.proofs.Answers.{as-on-grid}
 use Rattle.register.specs.Founding.{foundTests, founded}
 use Rattle.register.specs.Calls.{Lists, formed, means, Leaves, verdictOf}
 use Rattle.judging.specs.Splitting.{splitTests}
@@ -92,3 +95,11 @@ module _ (l : Lists) (ts : List Turn) (fresh : Fresh l) (ran : Ran l ts) where
 
       told : (g : Register) → assigned (formed (last l ts)) g r x y ≡ assigned true g r x y → answerOf a ≡ assigned (formed (last l ts)) g r x y → SaidOne (assigned true g r x y) g r (point x y) u → SaidOne (answerOf a) g r (point x y) u
       told g e f h = record { district = h .district; is = f ∙ e ∙ h .is; only = h .only }
+
+  -- the same of a report with any position that is there and finite
+  pub lists-one-at : (a : Assigned) (r : ℕ) (p : Position) (u : ℤ) → answerOf a ≡ assignedAt (formed (last l ts)) (means (last l ts)) r p → isMissing p ≡ false → notFinite p ≡ false
+      → (u ≡ pos 1) ⊎ (u ≡ negsuc 0) → beyond (eastOf p) ≡ false → beyond (northOf p) ≡ false → ClearOf (means (last l ts)) (point (eastOf p) (northOf p))
+      → slotWinding (point (eastOf p) (northOf p)) (means (last l ts) .outline) ≡ u
+      → ((d : ℕ) → (slotWinding (point (eastOf p) (northOf p)) (slot (means (last l ts)) d) ≡ pos 0) ⊎ (slotWinding (point (eastOf p) (northOf p)) (slot (means (last l ts)) d) ≡ u))
+      → SaidOne (answerOf a) (means (last l ts)) r (point (eastOf p) (northOf p)) u
+  lists-one-at a r p u said there fine = lists-one a r (eastOf p) (northOf p) u (said ∙ as-on-grid (formed (last l ts)) (means (last l ts)) r p there fine)

@@ -1,7 +1,7 @@
 -- What the exported changes of a register answer and leave: what the calls of `register` and `changes` do, told as a code. Assumes nothing.
 use Prim.Native.Nat.{ℕ}
 use mathlib.Core.Path.{_≡_}
-use mathlib.Core.List.{List}
+use mathlib.Core.List.{List, [], _∷_}
 use lib.IntN.{ℤ}
 use Rattle.ring.specs.Grid.{vertices}
 use Rattle.districts.specs.Register.{Register}
@@ -9,12 +9,14 @@ use Rattle.districts.specs.Answers.{Answer}
 use Rattle.register.specs.Verdict.{Verdict, verdict}
 use Rattle.register.specs.Founding.{foundTests, founded}
 use Rattle.register.specs.Calls.{Lists, formed, means, Leaves}
+use Rattle.fixes.specs.declared.Placed.{Placed}
+use Rattle.fixes.specs.declared.Placed.the-variants.{OnGrid, BeyondGrid, NotFinite}
 use Rattle.tally.specs.Tally.{tallied, answered}
 use Rattle.judging.specs.Splitting.{splitTests, lowestUnused}
 use Rattle.judging.specs.Merging.{mergeTests}
 use Rattle.judging.specs.Answers.{answers}
 use Rattle.changes.specs.Afterwards.{split, merge}
-use Rattle.launchramp.specs.Codes.{Code, verdictCode, changeCode, answerCode, Tells}
+use Rattle.launchramp.specs.Codes.{Code, verdictCode, changeCode, answerCode, placedCode, Tells}
 use Rattle.launchramp.specs.Counts.{tallyOf}
 
 -- a call judged as v, told by code c, that leaves register g if nothing is refused
@@ -39,3 +41,13 @@ MergeTells r values A a B b k before after =
 pub record CountTells (r : ℕ) (values : List ℕ) (a : Answer) (before after : List ℕ) : Type 0 where
   pub tells : Tells r values (answerCode (answered (tallyOf before) a))
   pub tally : tallyOf after ≡ tallied (tallyOf before) a
+
+-- what a lent point is once a fix was placed
+abbrev pub pointFor : Placed → List ℤ → List ℤ
+pointFor (OnGrid x y) before = x ∷ y ∷ []
+pointFor BeyondGrid before = before
+pointFor NotFinite before = before
+
+pub record PlaceTells (r : ℕ) (values : List ℕ) (p : Placed) (before after : List ℤ) : Type 0 where
+  pub tells : Tells r values (placedCode p)
+  pub left : after ≡ pointFor p before

@@ -7,6 +7,8 @@ use Rattle.ring.specs.Locate.{Place, vertex, edge, off, refused}
 use Rattle.districts.specs.Answers as Answers
 use Rattle.districts.specs.Answers.{Belongs, border, one, none, several, Answer, report}
 use Rattle.register.specs.Verdict.{Verdict, accept, refuse}
+use Rattle.fixes.specs.declared.Placed.{Placed}
+use Rattle.fixes.specs.declared.Placed.the-variants.{OnGrid, BeyondGrid, NotFinite}
 use Rattle.judging.specs.Answers as Changes
 
 pub record Code : Type 0 where
@@ -53,6 +55,12 @@ classCode (several d n) = code 8 d n
 abbrev pub answerCode : Answer → Code
 answerCode (report r b) = classCode b
 answerCode (Answers.refused n) = refusedCode n
+
+-- where a fix is; on the grid, its millimetres are told apart
+abbrev pub placedCode : Placed → Code
+placedCode (OnGrid x y) = doneCode 0
+placedCode BeyondGrid = refusedCode 5
+placedCode NotFinite = refusedCode 18
 
 -- the kind is answered, and the values stand in the lent list
 pub record Tells (r : ℕ) (lent : List ℕ) (c : Code) : Type 0 where

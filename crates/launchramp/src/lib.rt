@@ -3,13 +3,17 @@
 mod counting;
 mod telling;
 
+use fixes::Fix;
+use positions::Position;
 ghost use mathlib.Core.Path.{_≡_};
 ghost use Rattle.ring.specs.Locate.{located};
 ghost use Rattle.districts.specs.WellFormed.{wellFormed};
 ghost use Rattle.districts.specs.Lists.{meaning};
 ghost use Rattle.register.specs.Sorting.{assigned};
+ghost use Rattle.fixes.specs.Millimetres.{placed};
+ghost use Rattle.positions.specs.Placing.{assignedAt};
 ghost use Rattle.launchramp.specs.Codes.{placeCode, answerCode, Tells};
-ghost use Rattle.launchramp.specs.Calls.{FoundTells, SplitTells, MergeTells, CountTells};
+ghost use Rattle.launchramp.specs.Calls.{FoundTells, SplitTells, MergeTells, CountTells, PlaceTells};
 
 // Where a point lies against one ring.
 #[no_mangle]
@@ -106,4 +110,59 @@ pub extern "C" fn launchramp_assign_counted(
 {
     let answer = register::assign(outline, store, runs, 0, x, y);
     telling::assigned(counting::counted(answer, counts), values)
+}
+
+// A receiver's fix, in metres, as the millimetres x, y of the grid.
+#[no_mangle]
+pub extern "C" fn launchramp_millimetres(easting: f64, northing: f64, point: &mut [i32; 2], values: &mut [u64; 2]) -> u32
+    ensures { λ r. ⌜ PlaceTells r (now (values .exit)) (placed easting northing) (now (point .entry)) (now (point .exit)) ⌝ }
+{
+    telling::placed(fixes::millimetres(Fix { easting, northing }), point, values)
+}
+
+// Sorts a report by a receiver's fix.
+#[no_mangle]
+pub extern "C" fn launchramp_assign_fix(
+    outline: &[i32],
+    store: &[i32],
+    runs: &[u32],
+    easting: f64,
+    northing: f64,
+    values: &mut [u64; 2],
+) -> u32
+    ensures { λ r. ⌜ Tells r (now (values .exit)) (answerCode (assignedAt (wellFormed (now (outline .entry)) (now (store .entry)) (now (runs .entry))) (meaning (now (outline .entry)) (now (store .entry)) (now (runs .entry))) 0 (Position.Fix (record { easting = easting; northing = northing })))) ⌝ }
+{
+    let position = Position::Fix(Fix { easting, northing });
+    telling::assigned(positions::assign_at(outline, store, runs, 0, position), values)
+}
+
+// Sorts a report by a receiver's fix, and counts it in a tally.
+#[no_mangle]
+pub extern "C" fn launchramp_assign_fix_counted(
+    outline: &[i32],
+    store: &[i32],
+    runs: &[u32],
+    easting: f64,
+    northing: f64,
+    counts: &mut [u32; 67],
+    values: &mut [u64; 2],
+) -> u32
+    ensures { λ r. ⌜ CountTells r (now (values .exit)) (assignedAt (wellFormed (now (outline .entry)) (now (store .entry)) (now (runs .entry))) (meaning (now (outline .entry)) (now (store .entry)) (now (runs .entry))) 0 (Position.Fix (record { easting = easting; northing = northing }))) (now (counts .entry)) (now (counts .exit)) ⌝ }
+{
+    let position = Position::Fix(Fix { easting, northing });
+    let answer = positions::assign_at(outline, store, runs, 0, position);
+    telling::assigned(counting::counted(answer, counts), values)
+}
+
+// Refuses a report whose position is missing: by 19, or by what comes before it.
+#[no_mangle]
+pub extern "C" fn launchramp_assign_missing(
+    outline: &[i32],
+    store: &[i32],
+    runs: &[u32],
+    values: &mut [u64; 2],
+) -> u32
+    ensures { λ r. ⌜ Tells r (now (values .exit)) (answerCode (assignedAt (wellFormed (now (outline .entry)) (now (store .entry)) (now (runs .entry))) (meaning (now (outline .entry)) (now (store .entry)) (now (runs .entry))) 0 Position.Missing)) ⌝ }
+{
+    telling::assigned(positions::assign_at(outline, store, runs, 0, Position::Missing), values)
 }

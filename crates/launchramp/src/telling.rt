@@ -1,16 +1,19 @@
 // Telling an answer: its kind, and its values in a lent list of two.
 use districts::Assigned;
 use districts::Class;
+use districts::Refusal;
+use fixes::Placed;
 use judging::Changed;
 use register::Founded;
 use ring::Located;
 use ring::Winding;
 ghost use mathlib.Core.Path.{_≡_};
 ghost use Rattle.ring.specs.Locate.{placeOf, numberOf as ringNumberOf};
-ghost use Rattle.districts.specs.Answers.{belongs, answerOf};
+ghost use Rattle.districts.specs.Answers.{numberOf, belongs, answerOf};
 ghost use Rattle.register.specs.Calls.{verdictOf};
 ghost use Rattle.judging.specs.Answers as Changes;
-ghost use Rattle.launchramp.specs.Codes.{code, offCode, placeCode, verdictCode, changeCode, classCode, answerCode, Tells};
+ghost use Rattle.launchramp.specs.Codes.{code, refusedCode, offCode, placeCode, verdictCode, changeCode, classCode, answerCode, Tells};
+ghost use Rattle.launchramp.specs.Calls.{PlaceTells};
 
 const REFUSED: u32 = 0;
 
@@ -35,6 +38,12 @@ fn told(kind: u32, a: usize, b: usize, values: &mut [u64; 2]) -> u32
 {
     *values = [a as u64, b as u64];
     kind
+}
+
+fn refused(r: Refusal, values: &mut [u64; 2]) -> u32
+    ensures { λ k. ⌜ Tells k (now (values .exit)) (refusedCode (numberOf r)) ⌝ }
+{
+    told(REFUSED, districts::refusal_number(r), 0, values)
 }
 
 // A winding number as its size, and 1 where it is negative.
@@ -73,7 +82,7 @@ pub fn founded(f: Founded, values: &mut [u64; 2]) -> u32
 {
     match f {
         Founded::Done => told(DONE, 0, 0, values),
-        Founded::Refused(n) => told(REFUSED, districts::refusal_number(n), 0, values),
+        Founded::Refused(n) => refused(n, values),
     }
 }
 
@@ -105,6 +114,20 @@ pub fn assigned(a: Assigned, values: &mut [u64; 2]) -> u32
             let c = report.class;
             class(c, values)
         }
-        Assigned::Refused(n) => told(REFUSED, districts::refusal_number(n), 0, values),
+        Assigned::Refused(n) => refused(n, values),
+    }
+}
+
+// A fix on the grid is written to `point`; otherwise that stays as it was.
+pub fn placed(p: Placed, point: &mut [i32; 2], values: &mut [u64; 2]) -> u32
+    ensures { λ r. ⌜ PlaceTells r (now (values .exit)) p (now (point .entry)) (now (point .exit)) ⌝ }
+{
+    match p {
+        Placed::OnGrid(x, y) => {
+            *point = [x, y];
+            told(DONE, 0, 0, values)
+        }
+        Placed::BeyondGrid => refused(Refusal::BeyondGrid, values),
+        Placed::NotFinite => refused(Refusal::NotFinite, values),
     }
 }

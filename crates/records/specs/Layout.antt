@@ -6,7 +6,6 @@ use lib.Dec.{eqb, ltb}
 use lib.ListN.{length}
 use lib.Ieee.{Float, binary64, ofBits}
 use Rattle.ring.specs.Grid.{pick}
-use Rattle.positions.specs.declared.Position.{Position}
 use Rattle.positions.specs.declared.Position.the-variants.{Grid, Fix, Missing}
 use Rattle.history.specs.Histories.{Call, founding, splitting, merging, reporting}
 use Rattle.records.specs.Bytes.{field, signed, signedFields}
@@ -54,32 +53,31 @@ splitFront bytes =
 abbrev pub mergeFront : List ℕ → Front
 mergeFront bytes = upTo bytes 11 (merging (field bytes 3 1) (field bytes 4 2) (field bytes 6 1) (field bytes 7 2) (field bytes 9 2))
 
--- x and y (signed 32)
-abbrev pub gridAt : List ℕ → ℕ → Position
-gridAt bytes at = Grid (signed (field bytes at 4)) (signed (field bytes (at + 4) 4))
+-- a report r (32), whose position's values from a place on end the record: x and y (signed 32)
+abbrev pub gridFront : List ℕ → ℕ → Front
+gridFront bytes at = upTo bytes (at + 8) (reporting (field bytes 3 4) (Grid (signed (field bytes at 4)) (signed (field bytes (at + 4) 4))))
 
 -- a double of 64 bits; every pattern of a NaN is read as the one NaN
 abbrev pub double : List ℕ → ℕ → Float
 double bytes at = ofBits binary64 (field bytes at 8)
 
--- easting and northing (doubles of 64)
-abbrev pub fixAt : List ℕ → ℕ → Position
-fixAt bytes at = Fix (record { easting = double bytes at; northing = double bytes (at + 8) })
+-- the same with easting and northing (doubles of 64)
+abbrev pub fixFront : List ℕ → ℕ → Front
+fixFront bytes at = upTo bytes (at + 16) (reporting (field bytes 3 4) (Fix (record { easting = double bytes at; northing = double bytes (at + 8) })))
 
--- kind 4, report: r (32), x, y (signed 32)
+-- kind 4, report: r, x, y
 abbrev pub reportFront : List ℕ → Front
-reportFront bytes = upTo bytes 15 (reporting (field bytes 3 4) (gridAt bytes 7))
+reportFront bytes = gridFront bytes 7
 
--- kind 5, position: r (32), a byte 0 for missing, 1 for grid or 2 for fix, then nothing, x and y (signed 32), or easting and northing (doubles of 64)
+-- kind 5, a position: r, a byte 0 for missing, 1 for grid or 2 for fix, then nothing, x and y, or easting and northing
 abbrev pub positionFront : List ℕ → Front
 positionFront bytes =
     from bytes 8
-    (pick (eqb what 0) (upTo bytes 8 (reporting r Missing))
-    (pick (eqb what 1) (upTo bytes 16 (reporting r (gridAt bytes 8)))
-    (pick (eqb what 2) (upTo bytes 24 (reporting r (fixAt bytes 8))) broken)))
+    (pick (eqb what 0) (upTo bytes 8 (reporting (field bytes 3 4) Missing))
+    (pick (eqb what 1) (gridFront bytes 8)
+    (pick (eqb what 2) (fixFront bytes 8) broken)))
   where
-    r what : ℕ
-    r = field bytes 3 4
+    what : ℕ
     what = field bytes 7 1
 
 -- by the kind byte; kinds 6 and 7 are unknown until document 02's requests bring them

@@ -1,14 +1,19 @@
 // Decoding the record at the front of a stream's bytes, by its kind. The places of fields are counted from the record's first byte, as the
-// layout lists them. Kinds 5 to 7 are unknown until document 02's requests bring them.
+// layout lists them. Kinds 6 and 7 are unknown until document 02's requests bring them.
 use crate::Decoded;
 use crate::Front;
 use crate::Sighting;
 use crate::fields;
+use fixes::Fix;
+use positions::Position;
 ghost use mathlib.Core.Path.{_≡_};
 ghost use mathlib.Core.List.{List};
 ghost use lib.IntN.{ℤ};
 ghost use lib.ListN.{length};
-ghost use Rattle.records.specs.Layout.{outlineFront, splitFront, mergeFront, reportFront, front};
+ghost use Prim.Native.Nat.{_≤_, _<_};
+ghost use Rattle.records.specs.Layout.{whole, outlineFront, splitFront, mergeFront, gridFront, fixFront, positionFront, front};
+ghost use Rattle.history.specs.Histories.{reporting};
+ghost use Rattle.records.specs.Bytes.{field};
 ghost use Rattle.records.specs.Decoding.{Decodes};
 
 // The mark 4F 47.
@@ -16,18 +21,23 @@ const FIRST_MARK: usize = 79;
 
 const SECOND_MARK: usize = 71;
 
-// How many bytes stand before the fields, and before the pairs of an outline and of a split; how many a pair, a merge and a report have.
+// How many bytes stand before the fields, before the pairs of an outline and of a split, and before the values of a report and of a position;
+// how many a pair, a merge and a fix have.
 const HEAD: usize = 3;
 
 const OUTLINE_HEAD: usize = 5;
 
 const SPLIT_HEAD: usize = 10;
 
+const REPORT_HEAD: usize = 7;
+
+const POSITION_HEAD: usize = 8;
+
 const PAIR: usize = 8;
 
 const MERGE: usize = 11;
 
-const REPORT: usize = 15;
+const FIX: usize = 24;
 
 // The most vertices or points that a record may announce.
 const MOST: usize = 2048;
@@ -102,18 +112,54 @@ fn merge(bytes: &[u8]) -> Decoded
     }
 }
 
-fn report(bytes: &[u8]) -> Decoded
-    ensures { λ r. ⌜ ((to : List ℤ) → Decodes r (reportFront (now (bytes .entry))) to to) ⌝ }
+// A report of so many bytes.
+fn reported(bytes: &[u8], position: Position, taken: usize) -> Decoded
+    requires { ⌜ 7 ≤ length (now bytes) ⌝ }
+    ensures { λ r. ⌜ ((to : List ℤ) → Decodes r (whole (reporting (field (now (bytes .entry)) 3 4) position) taken) to to) ⌝ }
 {
-    if bytes.len() < REPORT {
+    let number = fields::four(bytes, HEAD) as u32;
+    Decoded {
+        front: Front::Report(Sighting { number, position }),
+        taken,
+    }
+}
+
+// A report whose x and y end the record.
+fn with_grid(bytes: &[u8], at: usize) -> Decoded
+    requires { ⌜ (7 ≤ at) × (at < 256) ⌝ }
+    ensures { λ r. ⌜ ((to : List ℤ) → Decodes r (gridFront (now (bytes .entry)) at) to to) ⌝ }
+{
+    let taken = at + PAIR;
+    if bytes.len() < taken {
         return nothing(Front::More);
     }
-    let number = fields::four(bytes, HEAD) as u32;
-    let x = fields::signed(fields::four(bytes, 7));
-    let y = fields::signed(fields::four(bytes, 11));
-    Decoded {
-        front: Front::Report(Sighting { number, x, y }),
-        taken: REPORT,
+    let x = fields::signed(fields::four(bytes, at));
+    let y = fields::signed(fields::four(bytes, at + 4));
+    reported(bytes, Position::Grid(x, y), taken)
+}
+
+fn with_fix(bytes: &[u8]) -> Decoded
+    ensures { λ r. ⌜ ((to : List ℤ) → Decodes r (fixFront (now (bytes .entry)) 8) to to) ⌝ }
+{
+    if bytes.len() < FIX {
+        return nothing(Front::More);
+    }
+    let easting = fields::double(fields::eight(bytes, POSITION_HEAD));
+    let northing = fields::double(fields::eight(bytes, 16));
+    reported(bytes, Position::Fix(Fix { easting, northing }), FIX)
+}
+
+fn position(bytes: &[u8]) -> Decoded
+    ensures { λ r. ⌜ ((to : List ℤ) → Decodes r (positionFront (now (bytes .entry))) to to) ⌝ }
+{
+    if bytes.len() < POSITION_HEAD {
+        return nothing(Front::More);
+    }
+    match fields::one(bytes, 7) {
+        0 => reported(bytes, Position::Missing, POSITION_HEAD),
+        1 => with_grid(bytes, POSITION_HEAD),
+        2 => with_fix(bytes),
+        _ => nothing(Front::Broken),
     }
 }
 
@@ -132,7 +178,8 @@ pub fn decode(bytes: &[u8], to: &mut [i32; 4096]) -> Decoded
         1 => outline(bytes, to),
         2 => split(bytes, to),
         3 => merge(bytes),
-        4 => report(bytes),
+        4 => with_grid(bytes, REPORT_HEAD),
+        5 => position(bytes),
         _ => nothing(Front::Broken),
     }
 }

@@ -1,18 +1,26 @@
-// The fields of a record: numbers of one, two and four bytes, little-endian, and signed ones of four.
+// The fields of a record: numbers of one, two, four and eight bytes, little-endian, signed ones of four, and doubles of eight.
 ghost use mathlib.Core.Path.{_≡_};
-ghost use Prim.Native.Nat.{_+_, _*_, _<_, _≤_};
+ghost use Prim.Native.Nat.{_+_, _*_, _^_, _<_, _≤_};
 ghost use lib.ListN.{length};
+ghost use lib.Ieee.{binary64, ofBits};
 ghost use Rattle.register.specs.Calls.{written};
 ghost use Rattle.records.specs.Bytes.{field, signed as signedOf, signedFields};
 
-// How many numbers one and two bytes can be, half of what four can be, and all of it.
+// How many numbers one, two and four bytes can be, and half of what four can be.
 const ONE_BYTE: usize = 256;
 
 const TWO_BYTES: usize = 65_536;
 
+const FOUR_BYTES: usize = 4_294_967_296;
+
 const HALF: usize = 2_147_483_648;
 
 const ALL: i64 = 4_294_967_296;
+
+// The weight of a double's sign, and the pattern of the infinity without one: NaNs are those above it.
+const SIGN: usize = 9_223_372_036_854_775_808;
+
+const INFINITY: usize = 9_218_868_437_227_405_312;
 
 fn wide(x: u8) -> usize
     ensures { λ r. ⌜ (r ≡ x) × (r < 256) ⌝ }
@@ -39,6 +47,24 @@ pub fn four(bytes: &[u8], at: usize) -> usize
     ensures { λ r. ⌜ (r ≡ field (now (bytes .entry)) at 4) × (r < 4294967296) ⌝ }
 {
     two(bytes, at) + TWO_BYTES * two(bytes, at + 2)
+}
+
+pub fn eight(bytes: &[u8], at: usize) -> usize
+    requires { ⌜ at + 8 ≤ length (now bytes) ⌝ }
+    ensures { λ r. ⌜ (r ≡ field (now (bytes .entry)) at 8) × (r < 2 ^ 64) ⌝ }
+{
+    four(bytes, at) + FOUR_BYTES * four(bytes, at + 4)
+}
+
+// 64 bits as a double. `from_bits` is undefined at a NaN's pattern, so every one of them becomes the NaN that 0 / 0 is.
+pub fn double(bits: usize) -> f64
+    requires { ⌜ bits < 2 ^ 64 ⌝ }
+    ensures { λ r. ⌜ r ≡ ofBits binary64 bits ⌝ }
+{
+    if INFINITY < bits % SIGN {
+        return 0.0 / 0.0;
+    }
+    f64::from_bits(bits as u64)
 }
 
 // 32 bits as a signed number.
