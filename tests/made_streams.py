@@ -55,8 +55,17 @@ class Maker:
         self.apply(self.register.merge, a_number, a, b_number, b, k)
 
     def report(self, point):
+        """In one of the three forms that a point has; the millimetre nearest to the fix is the point or, seldom, the next one."""
+        x, y = point
+        fix = f"fix {self.metres(x)} {self.metres(y)}"
+        self.report_at(self.rng.choice([words([point]), f"grid {words([point])}", fix]))
+
+    def metres(self, millimetres):
+        return repr((millimetres + self.rng.choice([0, 0.5, -0.5, self.rng.uniform(-0.5, 0.5)])) / 1000)
+
+    def report_at(self, position):
         number = self.rng.choice([0, MOST_REPORT, self.rng.randint(0, MOST_REPORT), self.rng.randint(1, 99_999)])
-        self.lines.append(f"report {number} {words([point])}")
+        self.lines.append(f"report {number} {position}")
 
     @staticmethod
     def apply(call, *arguments):
@@ -128,7 +137,14 @@ class Maker:
         )
 
     def strange_report(self):
-        self.report(self.rng.choice([self.point(), self.strange_point()]))
+        if self.rng.random() < 0.5:
+            self.report(self.rng.choice([self.point(), self.strange_point()]))
+        else:
+            self.report_at(self.rng.choice(["missing", f"fix {self.strange_metres()} {self.strange_metres()}"]))
+
+    def strange_metres(self):
+        """A double of any bits, or one that is seldom sent."""
+        return self.rng.choice([f"0x{self.rng.getrandbits(64):016X}", "nan", "inf", "-inf", "-0.0", "5e-324", "1e300", "0.0625"])
 
     def strange_number(self):
         return self.rng.choice([*self.register.districts, *self.register.districts, 1, 63, 64, 255])

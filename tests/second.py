@@ -3,14 +3,19 @@
     python3 tests/second.py < STREAM
 
 It shares nothing with the first: districts are separate lists of points that are never packed, numbers have no width, and
-winding numbers are counted by crossings instead of quarter turns.
+winding numbers are counted by crossings instead of quarter turns. Metres become millimetres by Python's fractions, whose `round` is exact
+and takes halves to even.
 """
+import math
 import struct
 import sys
+from fractions import Fraction
+from typing import NamedTuple
 
 MOST_VERTICES = 2048
 FEWEST_VERTICES = 3
 GRID = 1_000_000_000
+MILLIMETRES = 1000
 NUMBERS = range(64)
 CLASSES = ("one", "border", "none", "several")
 
@@ -56,6 +61,22 @@ def winding(ring, r):
 def walk(ring, start, count):
     """`count` vertices forward round the ring, from index `start` on."""
     return [ring[(start + step) % len(ring)] for step in range(count)]
+
+
+# Positions
+
+
+class Fix(NamedTuple):
+    """A receiver's position, in metres."""
+
+    easting: float
+    northing: float
+
+    def finite(self):
+        return math.isfinite(self.easting) and math.isfinite(self.northing)
+
+    def millimetres(self):
+        return round(Fraction(self.easting) * MILLIMETRES), round(Fraction(self.northing) * MILLIMETRES)
 
 
 # The register
@@ -126,9 +147,12 @@ class Register:
         del self.districts[b_number]
         return a_number
 
-    def assign(self, point):
-        """Answers the class, first word and then numbers."""
+    def assign(self, position):
+        """Answers the class, first word and then numbers. The position is None, a point in millimetres, or a Fix."""
         refuse_if(self.outline is None, 2)
+        refuse_if(position is None, 19)
+        refuse_if(isinstance(position, Fix) and not position.finite(), 18)
+        point = position.millimetres() if isinstance(position, Fix) else position
         refuse_if(beyond_grid([point]), 5)
         numbers = sorted(self.districts)
         for d in numbers:
@@ -186,8 +210,20 @@ class Reader:
         if kind == 3:
             return "merge", self.fields("BHBHH")
         if kind == 4:
-            r, x, y = self.fields("Iii")
-            return "report", (r, (x, y))
+            (r,) = self.fields("I")
+            return "report", (r, self.fields("ii"))
+        if kind == 5:
+            r, what = self.fields("IB")
+            return "report", (r, self.position(what))
+        raise BrokenRecord
+
+    def position(self, what):
+        if what == 0:
+            return None
+        if what == 1:
+            return self.fields("ii")
+        if what == 2:
+            return Fix(*self.fields("dd"))
         raise BrokenRecord
 
 

@@ -2,6 +2,7 @@
 
 HELP below is the language. For every byte string x, pack(unpack(x)) is x: what can't be a record is given as `bytes` lines.
 """
+import math
 import re
 import struct
 from collections import deque
@@ -13,14 +14,20 @@ One record a line; numbers and words are separated by blanks:
     split 0 from 0 to 2                 district, first index, last index
     split 0 from 0 to 1 path 2 9  3 9   the same along a path of points
     merge 0 at 2 with 1 at 0 along 1    district and index, district and index, number of edges
-    report 700 3 1                      report number, x y
+    report 700 3 1                      report number, x y in millimetres
+    report 701 fix 3.0625 -1.5          report number, a receiver's easting and northing in metres
+    report 702 missing                  a report without a position
+    report 703 grid 3 1                 x y again, as the receivers' kind of record
     bytes 4F 47 09                      any bytes in hex, for a broken record
 
+A value in metres becomes the nearest double; inf, -inf and nan are taken too, and 0x with 16 hex digits gives a double's bits.
 `#` starts a comment, empty lines are skipped, and a line that ends in a backslash goes on in the next.
 """
 
 MARK = b"\x4F\x47"
-OUTLINE, SPLIT, MERGE, REPORT = 1, 2, 3, 4
+OUTLINE, SPLIT, MERGE, REPORT, POSITION = 1, 2, 3, 4, 5
+# The byte of a position that says which of the three it is.
+MISSING, GRID, FIX = 0, 1, 2
 MOST_POINTS = 2048
 
 # A field: its letter in struct's layouts, and the least and the greatest number that it holds.
@@ -30,6 +37,8 @@ LONG = ("I", 0, 2**32 - 1)
 COORDINATE = ("i", -(2**31), 2**31 - 1)
 
 NUMBER = re.compile("-?[0-9]+")
+METRES = re.compile(r"-?(inf|[0-9]+(\.[0-9]+)?([eE][+-]?[0-9]+)?)|nan")
+PATTERN = re.compile("0x[0-9A-Fa-f]{16}")
 MOST_DIGITS = 20  # More than any field needs; longer words aren't turned into numbers at all.
 HEX_BYTE = re.compile("[0-9A-Fa-f]{2}")
 BYTES_A_LINE = 16
@@ -116,6 +125,18 @@ class Words:
             x, y = word, self.take("a y")
         return self.in_field(x, "an x", COORDINATE), self.in_field(y, "a y", COORDINATE)
 
+    def metres(self, what):
+        """The eight bytes of a double."""
+        word = self.take(what)
+        if PATTERN.fullmatch(word):
+            return struct.pack("<Q", int(word, 16))
+        if not METRES.fullmatch(word):
+            self.refuse(f"{what} should be a number of metres, and '{shown(word)}' is none")
+        value = float(word)
+        if math.isinf(value) and "inf" not in word:
+            self.refuse(f"{what} is {shown(word)}, and no double is as large ('inf' writes an infinity)")
+        return struct.pack("<d", value)
+
     def points(self, what):
         points = []
         while self.left:
@@ -178,8 +199,27 @@ def pack_merge(words):
 
 def pack_report(words):
     report = words.number("the report's number", LONG)
-    x, y = words.point()
-    return fields(REPORT, (LONG, report)) + pack_points([(x, y)])
+    form = words.left[0][1] if words.left else None
+    if form not in POSITIONS:
+        return fields(REPORT, (LONG, report)) + pack_points([words.point()])
+    words.keyword(form)
+    what, pack_values = POSITIONS[form]
+    return fields(POSITION, (LONG, report), (BYTE, what)) + pack_values(words)
+
+
+def pack_missing(words):
+    return b""
+
+
+def pack_grid(words):
+    return pack_points([words.point()])
+
+
+def pack_fix(words):
+    return words.metres("the easting") + words.metres("the northing")
+
+
+POSITIONS = {"missing": (MISSING, pack_missing), "grid": (GRID, pack_grid), "fix": (FIX, pack_fix)}
 
 
 def pack_bytes(words):
@@ -278,7 +318,31 @@ def unpack_report(record):
     return f"report {report} {x} {y}"
 
 
-UNPACKERS = {OUTLINE: unpack_outline, SPLIT: unpack_split, MERGE: unpack_merge, REPORT: unpack_report}
+def unpack_position(record):
+    report, what = record.take("IB")
+    if what == MISSING:
+        return f"report {report} missing"
+    if what == GRID:
+        return f"report {report} grid {record.points(1)}"
+    if what == FIX:
+        easting, northing = record.take("QQ")
+        return f"report {report} fix {metres(easting)} {metres(northing)}"
+    raise Broken(f"a position of kind {what} is unknown")
+
+
+def metres(bits):
+    """A double by its bits: as the shortest number that packs into it again, and a NaN by the bits themselves."""
+    (value,) = struct.unpack("<d", struct.pack("<Q", bits))
+    return f"0x{bits:016X}" if math.isnan(value) else repr(value)
+
+
+UNPACKERS = {
+    OUTLINE: unpack_outline,
+    SPLIT: unpack_split,
+    MERGE: unpack_merge,
+    REPORT: unpack_report,
+    POSITION: unpack_position,
+}
 
 
 def bytes_lines(rest):
