@@ -3,33 +3,36 @@ use Prim.Native.Nat.{ℕ, _+_, _*_, _≤_, _<_}
 use native.Mathlib.Omega.{arith}
 use mathlib.Core.Path.{_≡_, refl, sym, ap, subst, _∙_}
 use mathlib.Core.Bool.{true, false, not, _&&_}
-use mathlib.Core.List.{List, []}
+use mathlib.Core.List.{List}
 use lib.Dec.{eqb, ltb}
 use lib.IntN.{ℤ}
 use lib.ListN.{length, take, drop}
 use lib.Seq.{take-at}
+use lib.Ieee.{Float}
 use borrow.Author.Tests.{lt-ltb, le-ltb, ne-eqb}
 use Rattle.ring.specs.Grid.{pick}
 use Rattle.ring.proofs.Pick.{pick-true, pick-false}
 use Rattle.register.specs.Calls.{written}
-use Rattle.history.specs.Histories.{founding, splitting, merging, reporting}
+use Rattle.positions.specs.declared.Position.the-variants.{Grid, Fix, Missing}
+use Rattle.history.specs.Histories.{Call, founding, splitting, merging, reporting}
 use Rattle.records.specs.declared.Decoded.{Decoded}
-use Rattle.records.specs.declared.Front as Code
-use Rattle.records.specs.declared.Front.the-variants.{Outline, Split, Merge, Report}
-use Rattle.records.specs.declared.Sighting.{Sighting}
+use Rattle.records.specs.declared.Front.the-variants.{Outline, Split, Merge, More, Broken}
 use Rattle.records.specs.Bytes.{field, signed, signedFields}
-use Rattle.records.specs.Layout.{Front, whole, more, broken, from, outlineFront, splitFront, mergeFront, reportFront, byKind, front}
-use Rattle.records.specs.Decoding.{frontOf, takenFor, writtenFor, Decodes}
+use Rattle.records.specs.Layout.{Front, whole, more, broken, from, upTo, double, outlineFront, splitFront, mergeFront, gridFront, fixFront, positionFront, byKind, front}
+use Rattle.records.specs.Decoding.{frontOf, Decodes}
 use Rattle.records.proofs.Reading.{signed-long}
 
 -- ---- answers
 
--- an answer without coordinates leaves the list
-pub leaves : (r : Decoded) (q : Code.Front) (f : Front) (to : List ℤ) → (r .front ≡ q) × (r .taken ≡ 0) → frontOf q to ≡ f → takenFor f ≡ 0 → writtenFor f ≡ [] → Decodes r f to to
-leaves r q f to e g t h = record { said = ap (λ x. frontOf x to) (e .0) ∙ g; counted = e .1 ∙ sym t; left = sym (ap (λ l. written l to) h) }
-
 pub says : (r : Decoded) (f g : Front) (before after : List ℤ) → f ≡ g → Decodes r f before after → Decodes r g before after
 says r f g before after e d = subst (λ h. Decodes r h before after) e d
+
+-- an answer without a record leaves the list
+pub more-needed : (r : Decoded) (f : Front) (to : List ℤ) → f ≡ more → (r .front ≡ More) × (r .taken ≡ 0) → Decodes r f to to
+more-needed r f to e a = says r more f to to (sym e) (record { said = ap (λ q. frontOf q (r .taken) to) (a .0); counted = a .1; left = refl })
+
+pub broken-found : (r : Decoded) (f : Front) (to : List ℤ) → f ≡ broken → (r .front ≡ Broken) × (r .taken ≡ 0) → Decodes r f to to
+broken-found r f to e a = says r broken f to to (sym e) (record { said = ap (λ q. frontOf q (r .taken) to) (a .0); counted = a .1; left = refl })
 
 -- the coordinates stand in the first places
 read-off : (bytes : List ℕ) (at m : ℕ) (before after : List ℤ) → after ≡ written (signedFields bytes at m) before → take m after ≡ signedFields bytes at m
@@ -81,17 +84,22 @@ module _ (bytes : List ℕ) (before after : List ℤ) where
         left = w′;
       })
 
+-- a record without pairs, once its bytes are there
+pub up-to-whole : (bytes : List ℕ) (r : Decoded) (n : ℕ) (c d : Call) (to : List ℤ) → c ≡ d → n ≤ length bytes → Decodes r (whole c n) to to → Decodes r (upTo bytes n d) to to
+up-to-whole bytes r n c d to e there = says r (whole c n) (upTo bytes n d) to to (ap (λ x. whole x n) e ∙ sym (enough bytes n (whole d n) there))
+
 pub merge-whole : (bytes : List ℕ) (to : List ℤ) (A a B b k : ℕ) → A ≡ field bytes 3 1 → a ≡ field bytes 4 2 → B ≡ field bytes 6 1 → b ≡ field bytes 7 2 → k ≡ field bytes 9 2 → 11 ≤ length bytes
     → Decodes (record { front = Merge A a B b k; taken = 11 }) (mergeFront bytes) to to
 merge-whole bytes to A a B b k hA ha hB hb hk least =
-    let f = whole (merging (field bytes 3 1) (field bytes 4 2) (field bytes 6 1) (field bytes 7 2) (field bytes 9 2)) 11 in
-    says _ f (mergeFront bytes) to to (sym (enough bytes 11 f least)) (record { said = λ s. whole (merging (hA s) (ha s) (hB s) (hb s) (hk s)) 11; counted = refl; left = refl })
+    up-to-whole bytes _ 11 (merging A a B b k) _ to (λ s. merging (hA s) (ha s) (hB s) (hb s) (hk s)) least (record { said = refl; counted = refl; left = refl })
 
-pub report-whole : (bytes : List ℕ) (to : List ℤ) (s : Sighting) → s .number ≡ field bytes 3 4 → s .x ≡ signed (field bytes 7 4) → s .y ≡ signed (field bytes 11 4) → 15 ≤ length bytes
-    → Decodes (record { front = Report s; taken = 15 }) (reportFront bytes) to to
-report-whole bytes to s hr hx hy least =
-    let f = whole (reporting (field bytes 3 4) (signed (field bytes 7 4)) (signed (field bytes 11 4))) 15 in
-    says _ f (reportFront bytes) to to (sym (enough bytes 15 f least)) (record { said = λ t. whole (reporting (hr t) (hx t) (hy t)) 15; counted = refl; left = refl })
+pub grid-whole : (bytes : List ℕ) (to : List ℤ) (r : Decoded) (at : ℕ) (x y : ℤ) → x ≡ signed (field bytes at 4) → y ≡ signed (field bytes (at + 4) 4) → at + 8 ≤ length bytes
+    → Decodes r (whole (reporting (field bytes 3 4) (Grid x y)) (at + 8)) to to → Decodes r (gridFront bytes at) to to
+grid-whole bytes to r at x y hx hy = up-to-whole bytes r (at + 8) _ _ to (λ s. reporting (field bytes 3 4) (Grid (hx s) (hy s)))
+
+pub fix-whole : (bytes : List ℕ) (to : List ℤ) (r : Decoded) (at : ℕ) (x y : Float) → x ≡ double bytes at → y ≡ double bytes (at + 8) → at + 16 ≤ length bytes
+    → Decodes r (whole (reporting (field bytes 3 4) (Fix (record { easting = x; northing = y }))) (at + 16)) to to → Decodes r (fixFront bytes at) to to
+fix-whole bytes to r at x y hx hy = up-to-whole bytes r (at + 16) _ _ to (λ s. reporting (field bytes 3 4) (Fix (record { easting = hx s; northing = hy s })))
 
 -- ---- the mark and the kind
 
@@ -107,5 +115,20 @@ pub front-marked : (bytes : List ℕ) → 3 ≤ length bytes → (eqb (field byt
 unfolding front
 front-marked bytes h e = enough bytes 3 _ h ∙ pick-false (ap not e) _ _
 
-pub unknown-kind : (bytes : List ℕ) (k : ℕ) → (k ≡ 1 → ⊥) → (k ≡ 2 → ⊥) → (k ≡ 3 → ⊥) → (k ≡ 4 → ⊥) → byKind k bytes ≡ broken
-unknown-kind bytes k a b c d = pick-false (ne-eqb k 1 a) _ _ ∙ pick-false (ne-eqb k 2 b) _ _ ∙ pick-false (ne-eqb k 3 c) _ _ ∙ pick-false (ne-eqb k 4 d) _ _
+pub unknown-kind : (bytes : List ℕ) (k : ℕ) → (k ≡ 1 → ⊥) → (k ≡ 2 → ⊥) → (k ≡ 3 → ⊥) → (k ≡ 4 → ⊥) → (k ≡ 5 → ⊥) → byKind k bytes ≡ broken
+unknown-kind bytes k a b c d e =
+    pick-false (ne-eqb k 1 a) _ _ ∙ pick-false (ne-eqb k 2 b) _ _ ∙ pick-false (ne-eqb k 3 c) _ _ ∙ pick-false (ne-eqb k 4 d) _ _ ∙ pick-false (ne-eqb k 5 e) _ _
+
+-- ---- the byte that says what a position is
+
+abbrev pub byWhat : ℕ → List ℕ → Front
+byWhat what bytes =
+    pick (eqb what 0) (upTo bytes 8 (reporting (field bytes 3 4) Missing))
+    (pick (eqb what 1) (gridFront bytes 8)
+    (pick (eqb what 2) (fixFront bytes 8) broken))
+
+pub what-told : (bytes : List ℕ) (w : ℕ) → 8 ≤ length bytes → w ≡ field bytes 7 1 → byWhat w bytes ≡ positionFront bytes
+what-told bytes w there e = ap (λ v. byWhat v bytes) e ∙ sym (enough bytes 8 _ there)
+
+pub unknown-what : (bytes : List ℕ) (w : ℕ) → (w ≡ 0 → ⊥) → (w ≡ 1 → ⊥) → (w ≡ 2 → ⊥) → byWhat w bytes ≡ broken
+unknown-what bytes w a b c = pick-false (ne-eqb w 0 a) _ _ ∙ pick-false (ne-eqb w 1 b) _ _ ∙ pick-false (ne-eqb w 2 c) _ _

@@ -1,4 +1,5 @@
 pub mod Reading
+pub mod Doubles
 pub mod Fronts
 pub mod RoundTrip
 pub mod Unique

@@ -7,12 +7,15 @@ use mathlib.Core.List.{List, _∷_, _++_}
 use lib.Dec.{ltb, eqb}
 use lib.ListN.{length, take, drop, length-drop, length-append}
 use lib.Seq.{take-append-le, drop-append-le}
+use lib.Ieee.{binary64, ofBits}
 use borrow.Author.Tests.{le-ltb, ltb-false}
 use Rattle.ring.specs.Grid.{pick}
 use Rattle.ring.proofs.Pick.{pick-false}
+use Rattle.positions.specs.declared.Position.the-variants.{Grid, Fix, Missing}
 use Rattle.history.specs.Histories.{Call, founding, splitting, merging, reporting}
 use Rattle.records.specs.Bytes.{littleEndian, field, signed, signedFields}
-use Rattle.records.specs.Layout.{Front, whole, more, broken, firstMark, secondMark, from, upTo, outlineFront, splitFront, mergeFront, reportFront, byKind, front}
+use Rattle.records.specs.Layout.{Front, whole, more, broken, firstMark, secondMark, from, upTo, outlineFront, splitFront, mergeFront, gridFront, fixFront, positionFront, byKind, front}
+use Rattle.records.proofs.Fronts.{byWhat}
 
 -- what is decided stays
 abbrev Keeps : Front → Front → Type 0
@@ -87,20 +90,41 @@ module _ (bytes rest : List ℕ) where
       let k = field-same 9 2 (omega (arith, h)) in
       λ t. merging (sym A t) (sym a t) (sym B t) (sym b t) (sym k t))
 
-  keeps-report : Keeps (reportFront bytes) (reportFront all)
-  keeps-report =
-      keeps-up-to 15 _ _ (λ h.
+  keeps-grid : (at : ℕ) → 7 ≤ at → Keeps (gridFront bytes at) (gridFront all at)
+  keeps-grid at behind =
+      keeps-up-to (at + 8) _ _ (λ h.
+      let r = field-same 3 4 (omega (arith, h, behind)) in
+      let x = field-same at 4 (omega (arith, h)) in
+      let y = field-same (at + 4) 4 (omega (arith, h)) in
+      λ t. reporting (sym r t) (Grid (signed (sym x t)) (signed (sym y t))))
+
+  keeps-fix : Keeps (fixFront bytes 8) (fixFront all 8)
+  keeps-fix =
+      keeps-up-to 24 _ _ (λ h.
       let r = field-same 3 4 (omega (arith, h)) in
-      let x = field-same 7 4 (omega (arith, h)) in
-      let y = field-same 11 4 (omega (arith, h)) in
-      λ t. reporting (sym r t) (signed (sym x t)) (signed (sym y t)))
+      let x = field-same 8 8 (omega (arith, h)) in
+      let y = field-same 16 8 (omega (arith, h)) in
+      λ t. reporting (sym r t) (Fix (record { easting = ofBits binary64 (sym x t); northing = ofBits binary64 (sym y t) })))
+
+  keeps-position : Keeps (positionFront bytes) (positionFront all)
+  keeps-position = keeps-from 8 (byWhat (field bytes 7 1) bytes) (byWhat (field all 7 1) all) (λ h. subst (λ w. Keeps (byWhat (field bytes 7 1) bytes) (byWhat w all)) (sym (field-same 7 1 h)) (same (field bytes 7 1)))
+    where
+      missing : Keeps (upTo bytes 8 (reporting (field bytes 3 4) Missing)) (upTo all 8 (reporting (field all 3 4) Missing))
+      missing = keeps-up-to 8 _ _ (λ h. ap (λ r. reporting r Missing) (sym (field-same 3 4 (omega (arith, h)))))
+
+      same : (w : ℕ) → Keeps (byWhat w bytes) (byWhat w all)
+      same w =
+          keeps-pick (eqb w 0) _ _ _ _ missing
+          (keeps-pick (eqb w 1) _ _ _ _ (keeps-grid 8 (omega arith))
+          (keeps-pick (eqb w 2) _ _ broken broken keeps-fix refl))
 
   keeps-kind : (kind : ℕ) → Keeps (byKind kind bytes) (byKind kind all)
   keeps-kind kind =
       keeps-pick (eqb kind 1) _ _ _ _ keeps-outline
       (keeps-pick (eqb kind 2) _ _ _ _ keeps-split
       (keeps-pick (eqb kind 3) _ _ _ _ keeps-merge
-      (keeps-pick (eqb kind 4) _ _ broken broken keeps-report refl)))
+      (keeps-pick (eqb kind 4) _ _ _ _ (keeps-grid 7 (omega arith))
+      (keeps-pick (eqb kind 5) _ _ broken broken keeps-position refl))))
 
   keeps-front : Keeps (front bytes) (front all)
   unfolding front

@@ -1,6 +1,6 @@
 -- Fields as the code puts them together, and signed numbers one after the other. Assumes nothing.
 use Prim.Native.Nat.{ℕ, zero, suc, _+_, _*_, _-_, _^_, _≤_, _<_}
-use native.Mathlib.Nat.{zero-add}
+use native.Mathlib.Nat.{zero-add, suc-add, pow-succ'}
 use native.Mathlib.Numerals.{add-one}
 use native.Mathlib.Omega.{arith}
 use mathlib.Core.Path.{_≡_, refl, sym, ap, _∙_}
@@ -23,25 +23,20 @@ pub one-byte : (bytes : List ℕ) (at : ℕ) → at < length bytes → getD byte
 unfolding littleEndian
 one-byte bytes at h = let e = ap (λ l. littleEndian (take 1 l)) (drop-cons bytes at 0 h) in omega (arith, e)
 
-two-of : (l : List ℕ) → 2 ≤ length l → littleEndian (take 2 l) ≡ littleEndian (take 1 l) + 256 * littleEndian (take 1 (drop 1 l))
+-- a number of w + v bytes is one of the first w and one of the v behind them
+in-two : (w v : ℕ) (l : List ℕ) → w ≤ length l → littleEndian (take (w + v) l) ≡ littleEndian (take w l) + 256 ^ w * littleEndian (take v (drop w l))
 unfolding littleEndian
-two-of [] h = absurd (let f : ⊥ = omega arith in f)
-two-of (a ∷ []) h = absurd (let f : ⊥ = omega arith in f)
-two-of (a ∷ b ∷ l) h = omega arith
+in-two zero v l h = let e = ap (λ n. littleEndian (take n l)) (zero-add v) in omega (arith, e)
+in-two (suc w) v [] h = absurd (let f : ⊥ = omega arith in f)
+in-two (suc w) v (b ∷ l) h =
+    let whole = ap (λ n. littleEndian (take n (b ∷ l))) (suc-add w v) in
+    let behind = in-two w v l (omega arith) in
+    let weight = ap (λ p. p * littleEndian (take v (drop w l))) (pow-succ' 256 w) in
+    omega (arith, whole, behind, weight)
 
-four-of : (l : List ℕ) → 4 ≤ length l → littleEndian (take 4 l) ≡ littleEndian (take 2 l) + 65536 * littleEndian (take 2 (drop 2 l))
-unfolding littleEndian
-four-of [] h = absurd (let f : ⊥ = omega arith in f)
-four-of (a ∷ []) h = absurd (let f : ⊥ = omega arith in f)
-four-of (a ∷ b ∷ []) h = absurd (let f : ⊥ = omega arith in f)
-four-of (a ∷ b ∷ c ∷ []) h = absurd (let f : ⊥ = omega arith in f)
-four-of (a ∷ b ∷ c ∷ d ∷ l) h = omega arith
-
-pub two-bytes : (bytes : List ℕ) (at : ℕ) → at + 2 ≤ length bytes → field bytes at 2 ≡ field bytes at 1 + 256 * field bytes (at + 1) 1
-two-bytes bytes at h = two-of (drop at bytes) (omega (arith, length-drop at bytes)) ∙ ap (λ l. field bytes at 1 + 256 * littleEndian (take 1 l)) (drop-drop 1 at bytes)
-
-pub four-bytes : (bytes : List ℕ) (at : ℕ) → at + 4 ≤ length bytes → field bytes at 4 ≡ field bytes at 2 + 65536 * field bytes (at + 2) 2
-four-bytes bytes at h = four-of (drop at bytes) (omega (arith, length-drop at bytes)) ∙ ap (λ l. field bytes at 2 + 65536 * littleEndian (take 2 l)) (drop-drop 2 at bytes)
+-- a number of twice as many bytes
+pub twice-as-long : (bytes : List ℕ) (at w : ℕ) → at + 2 * w ≤ length bytes → field bytes at (w + w) ≡ field bytes at w + 256 ^ w * field bytes (at + w) w
+twice-as-long bytes at w h = in-two w w (drop at bytes) (omega (arith, length-drop at bytes)) ∙ ap (λ l. field bytes at w + 256 ^ w * littleEndian (take w l)) (drop-drop w at bytes)
 
 -- ---- signed
 

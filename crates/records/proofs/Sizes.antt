@@ -10,7 +10,7 @@ use borrow.Author.Tests.{ltb-false}
 use Rattle.ring.specs.Grid.{pick}
 use Rattle.history.specs.Histories.{Call}
 use Rattle.records.specs.Bytes.{field}
-use Rattle.records.specs.Layout.{Front, whole, more, broken, firstMark, secondMark, from, upTo, outlineFront, splitFront, byKind, front}
+use Rattle.records.specs.Layout.{Front, whole, more, broken, firstMark, secondMark, from, upTo, outlineFront, splitFront, positionFront, byKind, front}
 
 -- a split of 2,048 points is the longest record
 pub record Size (bytes : List ℕ) (n : ℕ) : Type 0 where
@@ -43,12 +43,21 @@ sized-outline bytes = sized-from bytes 5 _ (λ h. sized-announced bytes (field b
 sized-split : (bytes : List ℕ) → Sized bytes (splitFront bytes)
 sized-split bytes = sized-from bytes 10 _ (λ h. sized-announced bytes (field bytes 8 2) _ (λ few. sized-up-to bytes (10 + 8 * field bytes 8 2) _ (omega arith) (omega (arith, few))))
 
+sized-position : (bytes : List ℕ) → Sized bytes (positionFront bytes)
+sized-position bytes =
+    let what = field bytes 7 1 in
+    sized-from bytes 8 _ (λ h.
+    either (Sized bytes) (eqb what 0) _ _ (λ e. sized-up-to bytes 8 _ (omega arith) (omega arith)) (λ e.
+    either (Sized bytes) (eqb what 1) _ _ (λ e. sized-up-to bytes 16 _ (omega arith) (omega arith)) (λ e.
+    either (Sized bytes) (eqb what 2) _ _ (λ e. sized-up-to bytes 24 _ (omega arith) (omega arith)) (λ e. tt))))
+
 sized-kind : (bytes : List ℕ) (kind : ℕ) → Sized bytes (byKind kind bytes)
 sized-kind bytes kind =
     either (Sized bytes) (eqb kind 1) _ _ (λ e. sized-outline bytes) (λ e.
     either (Sized bytes) (eqb kind 2) _ _ (λ e. sized-split bytes) (λ e.
     either (Sized bytes) (eqb kind 3) _ _ (λ e. sized-up-to bytes 11 _ (omega arith) (omega arith)) (λ e.
-    either (Sized bytes) (eqb kind 4) _ _ (λ e. sized-up-to bytes 15 _ (omega arith) (omega arith)) (λ e. tt))))
+    either (Sized bytes) (eqb kind 4) _ _ (λ e. sized-up-to bytes 15 _ (omega arith) (omega arith)) (λ e.
+    either (Sized bytes) (eqb kind 5) _ _ (λ e. sized-position bytes) (λ e. tt)))))
 
 sized-front : (bytes : List ℕ) → Sized bytes (front bytes)
 unfolding front

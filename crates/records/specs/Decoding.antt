@@ -11,10 +11,10 @@ use Rattle.records.specs.declared.Front as Code
 use Rattle.records.specs.declared.Front.the-variants.{Outline, Split, Merge, Report, More, Broken}
 use Rattle.records.specs.Layout.{Front, whole, more, broken}
 
--- a record of so many bytes; the coordinates are read off the lent list
+-- the coordinates are read off the lent list; a record with coordinates has as many bytes as its count tells, another as many as are taken
 abbrev pub frontOf : Code.Front → ℕ → List ℤ → Front
-frontOf (Outline n) taken to = whole (founding (take (2 * n) to)) taken
-frontOf (Split d i j k) taken to = whole (splitting d i j (take (2 * k) to)) taken
+frontOf (Outline n) taken to = whole (founding (take (2 * n) to)) (5 + 8 * n)
+frontOf (Split d i j k) taken to = whole (splitting d i j (take (2 * k) to)) (10 + 8 * k)
 frontOf (Merge A a B b k) taken to = whole (merging A a B b k) taken
 frontOf (Report s) taken to = whole (reporting (s .number) (s .position)) taken
 frontOf More taken to = more

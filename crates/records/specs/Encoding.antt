@@ -5,7 +5,7 @@ use mathlib.Core.List.{List, [], _∷_}
 use lib.IntN.{ℤ, pos, negsuc}
 use lib.ListN.{length}
 use lib.Dec.{T}
-use lib.Ieee.{Float, binary64, toBits, fits}
+use lib.Ieee.{binary64, toBits, fits}
 use Rattle.positions.specs.declared.Position.{Position}
 use Rattle.positions.specs.declared.Position.the-variants.{Grid, Fix, Missing}
 use Rattle.history.specs.Histories.{Call, founding, splitting, merging, reporting}

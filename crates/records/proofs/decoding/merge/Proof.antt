@@ -1,9 +1,7 @@
 -- `records::decoding::merge` reads its fields once they are all there. Assumes nothing.
 use native.Mathlib.Omega.{arith}
-use mathlib.Core.Path.{refl, sym}
-use Rattle.records.specs.declared.Front.the-variants.{More}
-use Rattle.records.specs.Layout.{more, mergeFront}
-use Rattle.records.proofs.Fronts.{leaves, says, short, merge-whole}
+use Rattle.records.specs.Layout.{mergeFront}
+use Rattle.records.proofs.Fronts.{more-needed, short, merge-whole}
 use borrow.Author.Needs.{needs}
 use Rattle.records.proofs.decoding.merge.Statement.{statement}
 use Rattle.records.proofs.decoding.merge.Tie as tie
@@ -15,7 +13,7 @@ returns : tie.Need-returns
 returns c =
     let s = c .before .before .before in
     let bytes = s .args .bytes .now in
-    λ to. says _ more (mergeFront bytes) _ _ (sym (short bytes 11 _ (omega (arith, c .before .if1 .taken)))) (leaves (c .nothing .result) More more to (c .nothing .ensures) refl refl refl)
+    λ to. more-needed (c .nothing .result) (mergeFront bytes) to (short bytes 11 _ (omega (arith, c .before .if1 .taken))) (c .nothing .ensures)
 
 one-requires : tie.Need-one-requires
 one-requires c κs = search needs

@@ -1,11 +1,10 @@
 -- `records::decoding::outline` asks in the order of the layout. Assumes nothing.
 use Prim.Native.Nat.{_+_, _*_}
 use native.Mathlib.Omega.{arith}
-use mathlib.Core.Path.{refl, sym, _∙_}
-use Rattle.records.specs.declared.Front.the-variants.{More, Broken}
+use mathlib.Core.Path.{refl, _∙_}
 use Rattle.records.specs.Bytes.{field}
-use Rattle.records.specs.Layout.{more, broken, outlineFront}
-use Rattle.records.proofs.Fronts.{leaves, says, short, enough, announced-many, announced-few, outline-whole}
+use Rattle.records.specs.Layout.{outlineFront}
+use Rattle.records.proofs.Fronts.{more-needed, broken-found, short, enough, announced-many, announced-few, outline-whole}
 use borrow.Author.Needs.{needs}
 use Rattle.records.proofs.decoding.outline.Statement.{statement}
 use Rattle.records.proofs.decoding.outline.Tie as tie
@@ -17,7 +16,7 @@ returns : tie.Need-returns
 returns c =
     let s = c .before .before .before in
     let bytes = s .args .bytes .now in
-    says _ more (outlineFront bytes) _ _ (sym (short bytes 5 _ (c .before .if1 .taken))) (leaves (c .nothing .result) More more (s .args .to .now) (c .nothing .ensures) refl refl refl)
+    more-needed (c .nothing .result) (outlineFront bytes) (s .args .to .now) (short bytes 5 _ (c .before .if1 .taken)) (c .nothing .ensures)
 
 two-requires : tie.Need-two-requires
 two-requires c κs = search needs
@@ -31,7 +30,7 @@ returns-2 c =
     let s = many .before .before .before in
     let bytes = s .args .bytes .now in
     let is = enough bytes 5 _ (many .before .if1 .left) ∙ announced-many (field bytes 3 2) _ (omega (arith, many .two .ensures .0, c .before .if2 .taken)) in
-    says _ broken (outlineFront bytes) _ _ (sym is) (leaves (c .nothing2 .result) Broken broken (s .args .to .now) (c .nothing2 .ensures) refl refl refl)
+    broken-found (c .nothing2 .result) (outlineFront bytes) (s .args .to .now) is (c .nothing2 .ensures)
 
 mul-taken : tie.Need-mul-taken
 mul-taken c = search needs
@@ -50,7 +49,7 @@ returns-3 c =
     let bytes = s .args .bytes .now in
     let n = many .two .ensures .0 in
     let is = enough bytes 5 _ (many .before .if1 .left) ∙ announced-few (field bytes 3 2) _ (omega (arith, n, few .if2 .left)) ∙ short bytes (5 + 8 * field bytes 3 2) _ (omega (arith, n, c .before .if3 .taken)) in
-    says _ more (outlineFront bytes) _ _ (sym is) (leaves (c .nothing3 .result) More more (s .args .to .now) (c .nothing3 .ensures) refl refl refl)
+    more-needed (c .nothing3 .result) (outlineFront bytes) (s .args .to .now) is (c .nothing3 .ensures)
 
 mul-signed-fields : tie.Need-mul-signed-fields
 mul-signed-fields c = search needs

@@ -2,7 +2,7 @@
 use Prim.Native.Nat.{_+_, _*_}
 use native.Mathlib.Omega.{arith}
 use mathlib.Core.Path.{sym, _∙_}
-use Rattle.records.proofs.Reading.{four-bytes}
+use Rattle.records.proofs.Reading.{twice-as-long}
 use borrow.Author.Needs.{needs}
 use Rattle.records.proofs.fields.four.Statement.{statement}
 use Rattle.records.proofs.fields.four.Tie as tie
@@ -29,7 +29,7 @@ returns c =
     let at = s .args .at in
     let low = c .before .two .ensures in
     let high = c .two2 .ensures in
-    ((λ i. low .0 i + 65536 * high .0 i) ∙ sym (four-bytes bytes at (s .pre)), omega (arith, low .1, high .1))
+    ((λ i. low .0 i + 65536 * high .0 i) ∙ sym (twice-as-long bytes at 2 (s .pre)), omega (arith, low .1, high .1))
 
 pub four-spec : {M : Type 1} → statement M
 four-spec = tie.close (tie.spec two-requires add-two two-requires-2 mul-result add-result returns)

@@ -2,7 +2,7 @@
 use Prim.Native.Nat.{_+_, _*_}
 use native.Mathlib.Omega.{arith}
 use mathlib.Core.Path.{sym, _∙_}
-use Rattle.records.proofs.Reading.{two-bytes}
+use Rattle.records.proofs.Reading.{twice-as-long}
 use borrow.Author.Needs.{needs}
 use Rattle.records.proofs.fields.two.Statement.{statement}
 use Rattle.records.proofs.fields.two.Tie as tie
@@ -29,7 +29,7 @@ returns c =
     let at = s .args .at in
     let low = c .before .one .ensures in
     let high = c .one2 .ensures in
-    ((λ i. low .0 i + 256 * high .0 i) ∙ sym (two-bytes bytes at (s .pre)), omega (arith, low .1, high .1))
+    ((λ i. low .0 i + 256 * high .0 i) ∙ sym (twice-as-long bytes at 1 (s .pre)), omega (arith, low .1, high .1))
 
 pub two-spec : {M : Type 1} → statement M
 two-spec = tie.close (tie.spec one-requires add-one one-requires-2 mul-result add-result returns)
