@@ -114,7 +114,12 @@ pub extern "C" fn launchramp_assign_counted(
 
 // A receiver's fix, in metres, as the millimetres x, y of the grid.
 #[no_mangle]
-pub extern "C" fn launchramp_millimetres(easting: f64, northing: f64, point: &mut [i32; 2], values: &mut [u64; 2]) -> u32
+pub extern "C" fn launchramp_millimetres(
+    easting: f64,
+    northing: f64,
+    point: &mut [i32; 2],
+    values: &mut [u64; 2],
+) -> u32
     ensures { λ r. ⌜ PlaceTells r (now (values .exit)) (placed easting northing) (now (point .entry)) (now (point .exit)) ⌝ }
 {
     telling::placed(fixes::millimetres(Fix { easting, northing }), point, values)
@@ -133,7 +138,10 @@ pub extern "C" fn launchramp_assign_fix(
     ensures { λ r. ⌜ Tells r (now (values .exit)) (answerCode (assignedAt (wellFormed (now (outline .entry)) (now (store .entry)) (now (runs .entry))) (meaning (now (outline .entry)) (now (store .entry)) (now (runs .entry))) 0 (Position.Fix (record { easting = easting; northing = northing })))) ⌝ }
 {
     let position = Position::Fix(Fix { easting, northing });
-    telling::assigned(positions::assign_at(outline, store, runs, 0, position), values)
+    telling::assigned(
+        positions::assign_at(outline, store, runs, 0, position),
+        values,
+    )
 }
 
 // Sorts a report by a receiver's fix, and counts it in a tally.
@@ -164,5 +172,8 @@ pub extern "C" fn launchramp_assign_missing(
 ) -> u32
     ensures { λ r. ⌜ Tells r (now (values .exit)) (answerCode (assignedAt (wellFormed (now (outline .entry)) (now (store .entry)) (now (runs .entry))) (meaning (now (outline .entry)) (now (store .entry)) (now (runs .entry))) 0 Position.Missing)) ⌝ }
 {
-    telling::assigned(positions::assign_at(outline, store, runs, 0, Position::Missing), values)
+    telling::assigned(
+        positions::assign_at(outline, store, runs, 0, Position::Missing),
+        values,
+    )
 }

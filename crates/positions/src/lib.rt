@@ -41,7 +41,13 @@ fn assign_fix(outline: &[i32], store: &[i32], runs: &[u32], number: u32, fix: Fi
 }
 
 // Where report `number` with this position belongs.
-pub fn assign_at(outline: &[i32], store: &[i32], runs: &[u32], number: u32, position: Position) -> Assigned
+pub fn assign_at(
+    outline: &[i32],
+    store: &[i32],
+    runs: &[u32],
+    number: u32,
+    position: Position,
+) -> Assigned
     ensures { λ r. ⌜ answerOf r ≡ assignedAt (wellFormed (now (outline .entry)) (now (store .entry)) (now (runs .entry))) (meaning (now (outline .entry)) (now (store .entry)) (now (runs .entry))) number position ⌝ }
 {
     match position {

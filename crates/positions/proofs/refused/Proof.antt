@@ -51,14 +51,14 @@ returns-2 : tie.Need-returns-2
 returns-2 c =
     let s = c .before .before .before .before .before in
     sym (ap (λ v. given v (refused (numberOf (s .args .why))))
-        (passes 1 _ _ (ap not (good (c .before .before))) ∙ stops-at 2 _ _ (outlined (c .before) true (eq-eqb _ 0 (c .if2 .taken)))))
+    (passes 1 _ _ (ap not (good (c .before .before))) ∙ stops-at 2 _ _ (outlined (c .before) true (eq-eqb _ 0 (c .if2 .taken)))))
 
 returns-3 : tie.Need-returns-3
 returns-3 c =
     let s = c .before .before .before .before .before in
     let n = numberOf (s .args .why) in
     sym (ap (λ v. given v (refused n))
-        (passes 1 _ _ (ap not (good (c .before .before))) ∙ passes 2 _ _ (outlined (c .before) false (ne-eqb _ 0 (c .if2 .left))) ∙ stops-at n _ _ (λ i. true)))
+    (passes 1 _ _ (ap not (good (c .before .before))) ∙ passes 2 _ _ (outlined (c .before) false (ne-eqb _ 0 (c .if2 .left))) ∙ stops-at n _ _ (λ i. true)))
 
 pub refused-spec : {M : Type 1} → statement M
 refused-spec = tie.close (tie.spec well-formed-requires returns outline-size-requires returns-2 returns-3)

@@ -1,0 +1,4 @@
+pub mod Closest
+pub mod Doubles
+pub mod Exactly
+pub mod Vectors

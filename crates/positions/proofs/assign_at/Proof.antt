@@ -1,0 +1,77 @@
+-- `positions::assign_at` answers by the kind of position. Assumes nothing.
+use mathlib.Core.Path.{_≡_, sym, ap, _∙_}
+use mathlib.Core.Bool.{Bool}
+use mir.Syntax.{w32}
+use mir.Val.{SFits}
+use mir.Facts.{toZ-ofZ}
+use borrow.Author.Needs.{needs}
+use Rattle.districts.specs.Lists.{meaning}
+use Rattle.districts.specs.Register.{Register}
+use Rattle.districts.specs.WellFormed.{wellFormed}
+use Rattle.register.specs.Sorting.{assigned}
+use Rattle.positions.specs.declared.Position.{Position}
+use Rattle.positions.specs.Placing.{assignedAt}
+use Rattle.positions.proofs.Answers.{grid-as-before, missing-is}
+use Rattle.positions.proofs.assign_at.Statement.{statement}
+use Rattle.positions.proofs.assign_at.Tie as tie
+
+abbrev lent : tie.Start → Register
+lent s = meaning (s .args .outline .now) (s .args .store .now) (s .args .runs .now)
+
+abbrev formed : tie.Start → Bool
+formed s = wellFormed (s .args .outline .now) (s .args .store .now) (s .args .runs .now)
+
+with-position : (s : tie.Start) (p : Position) → s .args .position ≡ p → assignedAt (formed s) (lent s) (s .args .number) (s .args .position) ≡ assignedAt (formed s) (lent s) (s .args .number) p
+with-position s p = ap (assignedAt (formed s) (lent s) (s .args .number))
+
+enum-known-position : tie.Need-enum-known-position
+enum-known-position c = search needs
+
+assign-requires : tie.Need-assign-requires
+assign-requires c κs = search needs
+
+enum-known-position-2 : tie.Need-enum-known-position-2
+enum-known-position-2 c = search needs
+
+assign-fix-requires : tie.Need-assign-fix-requires
+assign-fix-requires c κs = search needs
+
+enum-told : tie.Need-enum-told
+enum-told c = search needs
+
+refused-requires : tie.Need-refused-requires
+refused-requires c κs = search needs
+
+returns : tie.Need-returns
+returns c =
+    let s = c .before .before .before .before .before in
+    let x = c .before .before .position .given .0 .0 in
+    let y = c .before .before .position .given .0 .1 .0 in
+    let across : SFits w32 x = search needs in
+    let up : SFits w32 y = search needs in
+    c .assign .ensures
+    ∙ (λ i. assigned (formed s) (lent s) (s .args .number) (toZ-ofZ across i) (toZ-ofZ up i))
+    ∙ sym (grid-as-before (formed s) (lent s) (s .args .number) x y)
+    ∙ sym (with-position s _ (c .before .before .position .given .1))
+
+returns-2 : tie.Need-returns-2
+returns-2 c = c .assign-fix .ensures ∙ sym (with-position (c .before .before .before .before .before) _ (c .before .before .position2 .given .1))
+
+returns-3 : tie.Need-returns-3
+returns-3 c =
+    let s = c .before .before .before .before in
+    c .refused .ensures ∙ sym (missing-is (formed s) (lent s) (s .args .number)) ∙ sym (with-position s _ (c .before .enum-told .given .1))
+
+pub assign-at-spec : {M : Type 1} → statement M
+assign-at-spec =
+    tie.close
+    (tie.spec
+    enum-known-position
+    assign-requires
+    enum-known-position-2
+    assign-fix-requires
+    enum-told
+    refused-requires
+    returns
+    returns-2
+    returns-3)

@@ -1,0 +1,85 @@
+-- `positions::assign_fix` answers by where the fix was placed. Assumes nothing.
+use mathlib.Core.Path.{_≡_, sym, ap, _∙_}
+use mathlib.Core.Bool.{Bool}
+use mir.Syntax.{w32}
+use mir.Val.{SFits}
+use mir.Facts.{toZ-ofZ}
+use borrow.Author.Needs.{needs}
+use Rattle.districts.specs.Lists.{meaning}
+use Rattle.districts.specs.Register.{Register}
+use Rattle.districts.specs.WellFormed.{wellFormed}
+use Rattle.register.specs.Sorting.{assigned}
+use Rattle.fixes.specs.declared.Placed.{Placed}
+use Rattle.fixes.specs.declared.Placed.the-variants.{OnGrid, BeyondGrid, NotFinite}
+use Rattle.positions.specs.declared.Position.the-variants.{Fix}
+use Rattle.positions.specs.Placing.{assignedAt}
+use Rattle.positions.proofs.Answers.{answerBy, fix-is}
+use Rattle.positions.proofs.assign_fix.Statement.{statement}
+use Rattle.positions.proofs.assign_fix.Tie as tie
+
+abbrev lent : tie.Start → Register
+lent s = meaning (s .args .outline .now) (s .args .store .now) (s .args .runs .now)
+
+abbrev formed : tie.Start → Bool
+formed s = wellFormed (s .args .outline .now) (s .args .store .now) (s .args .runs .now)
+
+-- the answer to the fix is that to the place which the conversion gave
+by-place : (c : tie.After-millimetres) (p : Placed) → c .millimetres .result ≡ p
+    → answerBy (formed (c .before .before)) (lent (c .before .before)) (c .before .before .args .number) p ≡ assignedAt (formed (c .before .before)) (lent (c .before .before)) (c .before .before .args .number) (Fix (c .before .before .args .fix))
+by-place c p e =
+    let s = c .before .before in
+    ap (answerBy (formed s) (lent s) (s .args .number)) (sym e ∙ c .millimetres .ensures) ∙ sym (fix-is (formed s) (lent s) (s .args .number) (s .args .fix))
+
+millimetres-requires : tie.Need-millimetres-requires
+millimetres-requires c κs = search needs
+
+enum-known-x : tie.Need-enum-known-x
+enum-known-x c = search needs
+
+assign-requires : tie.Need-assign-requires
+assign-requires c κs = search needs
+
+enum-told : tie.Need-enum-told
+enum-told c = search needs
+
+refused-requires : tie.Need-refused-requires
+refused-requires c κs = search needs
+
+enum-told-2 : tie.Need-enum-told-2
+enum-told-2 c = search needs
+
+refused-requires-2 : tie.Need-refused-requires-2
+refused-requires-2 c κs = search needs
+
+returns : tie.Need-returns
+returns c =
+    let converted = c .before .before .before .before in
+    let s = converted .before .before in
+    let x = c .before .before .x .given .0 .0 in
+    let y = c .before .before .x .given .0 .1 .0 in
+    let across : SFits w32 x = search needs in
+    let up : SFits w32 y = search needs in
+    c .assign .ensures
+    ∙ (λ i. assigned (formed s) (lent s) (s .args .number) (toZ-ofZ across i) (toZ-ofZ up i))
+    ∙ by-place converted (OnGrid x y) (c .before .before .x .given .1)
+
+returns-2 : tie.Need-returns-2
+returns-2 c = c .refused .ensures ∙ by-place (c .before .before .before) BeyondGrid (c .before .enum-told .given .1)
+
+returns-3 : tie.Need-returns-3
+returns-3 c = c .refused2 .ensures ∙ by-place (c .before .before .before) NotFinite (c .before .enum-told2 .given .1)
+
+pub assign-fix-spec : {M : Type 1} → statement M
+assign-fix-spec =
+    tie.close
+    (tie.spec
+    millimetres-requires
+    enum-known-x
+    assign-requires
+    enum-told
+    refused-requires
+    enum-told-2
+    refused-requires-2
+    returns
+    returns-2
+    returns-3)
