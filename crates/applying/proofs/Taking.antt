@@ -15,7 +15,7 @@ use Rattle.applying.specs.declared.Advanced.{Advanced}
 use Rattle.applying.specs.Advancing.{toldOf, toldFor, talliedFor, LeftFor, AdvancedBy}
 
 -- the answer is that of what was decoded
-pub advanced : (d : Decoded) (f g : Front) (r : Advanced) (t : Tally) (to to′ : List ℤ) (before after : Lists) → Decodes d f to to′ → frontOf (d .front) to′ ≡ g
+pub advanced : (d : Decoded) (f g : Front) (r : Advanced) (t : Tally) (to to′ : List ℤ) (before after : Lists) → Decodes d f to to′ → frontOf (d .front) (d .taken) to′ ≡ g
     → r .taken ≡ d .taken → toldOf (r .told) ≡ toldFor g (formed before) (means before) t → r .tally ≡ talliedFor g (formed before) (means before) t → LeftFor g before after
     → AdvancedBy r f t to to′ before after
 advanced d f g r t to to′ before after by is bytes says tallies leaves =
@@ -29,8 +29,8 @@ advanced d f g r t to to′ before after by is bytes says tallies leaves =
     }
 
 -- the coordinates of an outline, or of a path, are in the lent list
-pub outline-fits : (bytes : List ℕ) (to : List ℤ) (n : ℕ) → frontOf (Outline n) to ≡ front bytes → 2 * n ≤ 4096
-outline-fits bytes to n e = let size = whole-size bytes _ (5 + 8 * n) (sym e) .most in omega (arith, size)
+pub outline-fits : (bytes : List ℕ) (to : List ℤ) (taken n : ℕ) → frontOf (Outline n) taken to ≡ front bytes → 2 * n ≤ 4096
+outline-fits bytes to taken n e = let size = whole-size bytes _ (5 + 8 * n) (sym e) .most in omega (arith, size)
 
-pub path-fits : (bytes : List ℕ) (to : List ℤ) (d i j k : ℕ) → frontOf (Split d i j k) to ≡ front bytes → 2 * k ≤ 4096
-path-fits bytes to d i j k e = let size = whole-size bytes _ (10 + 8 * k) (sym e) .most in omega (arith, size)
+pub path-fits : (bytes : List ℕ) (to : List ℤ) (taken d i j k : ℕ) → frontOf (Split d i j k) taken to ≡ front bytes → 2 * k ≤ 4096
+path-fits bytes to taken d i j k e = let size = whole-size bytes _ (10 + 8 * k) (sym e) .most in omega (arith, size)

@@ -71,7 +71,7 @@ left-alike : (c : Call) (before after after′ : Lists) → LeftBy c before afte
 left-alike (founding xs) before after after′ = made-alike (founding xs) before after after′
 left-alike (splitting d i j path) before after after′ = made-alike (splitting d i j path) before after after′
 left-alike (merging A a B b k) before after after′ = made-alike (merging A a B b k) before after after′
-left-alike (reporting r x y) before after after′ = alike before after after′
+left-alike (reporting r p) before after after′ = alike before after after′
 
 front-alike : (f : Front) (before after after′ : Lists) → LeftFor f before after → LeftFor f before after′ → Alike after after′
 front-alike (whole c n) before after after′ = left-alike c before after after′

@@ -33,7 +33,7 @@ tally-after k [] = refl
 tally-after k (founding xs ∷ cs) = tally-after (next k (founding xs)) cs
 tally-after k (splitting d i j path ∷ cs) = tally-after (next k (splitting d i j path)) cs
 tally-after k (merging A a B b m ∷ cs) = tally-after (next k (merging A a B b m)) cs
-tally-after k (reporting r x y ∷ cs) = tally-after (next k (reporting r x y)) cs
+tally-after k (reporting r p ∷ cs) = tally-after (next k (reporting r p)) cs
 
 module _ (r : Grouped) (bytes : List ℕ) (by : GroupedBy r bytes) where
   abbrev grouped : Register

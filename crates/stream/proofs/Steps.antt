@@ -12,7 +12,7 @@ use lib.Seq.{take-length, drop-drop}
 use borrow.Author.Tests.{lt-ltb, le-ltb}
 use Rattle.register.specs.Verdict.{Verdict, accept, refuse, verdict}
 use Rattle.register.specs.Founding.{foundTests}
-use Rattle.register.specs.Sorting.{assignTests}
+use Rattle.positions.specs.Placing.{placeTests}
 use Rattle.register.specs.Calls.{Lists, formed, means}
 use Rattle.tally.specs.declared.Tally.{Tally}
 use Rattle.tally.specs.Tally.{fresh}
@@ -42,7 +42,7 @@ unfolding step judged judgedOn made
 stepped (founding xs) before after h l = kept _ _ (ap (λ b. verdict (foundTests b (means before) xs)) h) (made (means before) (founding xs)) before after h l
 stepped (splitting d i j path) before after h l = kept _ _ (ap (λ b. verdict (splitTests b (means before) d i j path)) h) (made (means before) (splitting d i j path)) before after h l
 stepped (merging A a B b k) before after h l = kept _ _ (ap (λ w. verdict (mergeTests w (means before) A a B b k)) h) (made (means before) (merging A a B b k)) before after h l
-stepped (reporting r x y) before after h l = (sym (ap formed l) ∙ h, sym (ap means l) ∙ say (verdict (assignTests true (means before) x y)))
+stepped (reporting r p) before after h l = (sym (ap formed l) ∙ h, sym (ap means l) ∙ say (verdict (placeTests true (means before) p)))
   where
     say : (v : Verdict) → means before ≡ taken v (means before) (means before)
     say accept = refl

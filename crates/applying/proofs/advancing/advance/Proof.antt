@@ -26,7 +26,7 @@ outline-requires c κs =
     let decoded = read .decode .ensures in
     let long : length (read .decode .last .1 .0) ≡ 4096 = search needs in
     let n = c .before .before .before .before .before .before .front .given .0 .0 in
-    let fits = outline-fits (start read .args .bytes .now) (read .decode .last .1 .0) n (sym (ap (λ q. frontOf q (read .decode .last .1 .0)) (c .before .before .before .before .before .before .front .given .1)) ∙ decoded .said) in
+    let fits = outline-fits (start read .args .bytes .now) (read .decode .last .1 .0) (read .decode .result .taken) n (sym (ap (λ q. frontOf q (read .decode .result .taken) (read .decode .last .1 .0)) (c .before .before .before .before .before .before .front .given .1)) ∙ decoded .said) in
     omega (arith, long, fits)
 
 enum-known-front-2 : tie.Need-enum-known-front-2
@@ -38,7 +38,7 @@ split-requires c κs =
     let decoded = read .decode .ensures in
     let long : length (read .decode .last .1 .0) ≡ 4096 = search needs in
     let k = c .before .before .before .before .before .before .front2 .given .0 .1 .1 .1 .0 in
-    let fits = path-fits (start read .args .bytes .now) (read .decode .last .1 .0) _ _ _ k (sym (ap (λ q. frontOf q (read .decode .last .1 .0)) (c .before .before .before .before .before .before .front2 .given .1)) ∙ decoded .said) in
+    let fits = path-fits (start read .args .bytes .now) (read .decode .last .1 .0) (read .decode .result .taken) _ _ _ k (sym (ap (λ q. frontOf q (read .decode .result .taken) (read .decode .last .1 .0)) (c .before .before .before .before .before .before .front2 .given .1)) ∙ decoded .said) in
     omega (arith, long, fits)
 
 enum-known-front-3 : tie.Need-enum-known-front-3
@@ -74,7 +74,7 @@ returns c =
     let called = c .before .before .before .before in
     let front = called .before .before .before .before .before .before .before in
     let read = front .before .before in
-    advanced (read .decode .result) _ _ _ _ _ _ _ _ (read .decode .ensures) (ap (λ q. frontOf q (read .decode .last .1 .0)) (front .front .given .1)) refl (ap (answered outline) (called .outline .ensures .answer (start read .args .tally))) refl (called .outline .ensures .left)
+    advanced (read .decode .result) _ _ _ _ _ _ _ _ (read .decode .ensures) (ap (λ q. frontOf q (read .decode .result .taken) (read .decode .last .1 .0)) (front .front .given .1)) refl (ap (answered outline) (called .outline .ensures .answer (start read .args .tally))) refl (called .outline .ensures .left)
 
 same-length-4 : tie.Need-same-length-4
 same-length-4 c = search needs
@@ -91,7 +91,7 @@ returns-2 c =
     let called = c .before .before .before in
     let front = called .before .before .before .before .before .before .before in
     let read = front .before .before in
-    advanced (read .decode .result) _ _ _ _ _ _ _ _ (read .decode .ensures) (ap (λ q. frontOf q (read .decode .last .1 .0)) (front .front2 .given .1)) refl (ap (answered split) (called .split .ensures .answer (start read .args .tally))) refl (called .split .ensures .left)
+    advanced (read .decode .result) _ _ _ _ _ _ _ _ (read .decode .ensures) (ap (λ q. frontOf q (read .decode .result .taken) (read .decode .last .1 .0)) (front .front2 .given .1)) refl (ap (answered split) (called .split .ensures .answer (start read .args .tally))) refl (called .split .ensures .left)
 
 same-length-7 : tie.Need-same-length-7
 same-length-7 c = search needs
@@ -108,7 +108,7 @@ returns-3 c =
     let called = c .before .before .before in
     let front = called .before .before .before .before .before in
     let read = front .before .before in
-    advanced (read .decode .result) _ _ _ _ _ _ _ _ (read .decode .ensures) (ap (λ q. frontOf q (read .decode .last .1 .0)) (front .front3 .given .1)) refl (ap (answered merge) (called .merge .ensures .answer (start read .args .tally))) refl (called .merge .ensures .left)
+    advanced (read .decode .result) _ _ _ _ _ _ _ _ (read .decode .ensures) (ap (λ q. frontOf q (read .decode .result .taken) (read .decode .last .1 .0)) (front .front3 .given .1)) refl (ap (answered merge) (called .merge .ensures .answer (start read .args .tally))) refl (called .merge .ensures .left)
 
 same-length-10 : tie.Need-same-length-10
 same-length-10 c = search needs
@@ -124,17 +124,17 @@ unfolding talliedBy
 returns-4 c =
     let front = c .before .before .before .before .before in
     let read = front .before .before in
-    advanced (read .decode .result) _ _ _ _ _ _ _ _ (read .decode .ensures) (ap (λ q. frontOf q (read .decode .last .1 .0)) (front .front4 .given .1)) (c .report .ensures .taken) (c .report .ensures .told) (c .report .ensures .tally) refl
+    advanced (read .decode .result) _ _ _ _ _ _ _ _ (read .decode .ensures) (ap (λ q. frontOf q (read .decode .result .taken) (read .decode .last .1 .0)) (front .front4 .given .1)) (c .report .ensures .taken) (c .report .ensures .told) (c .report .ensures .tally) refl
 
 returns-5 : tie.Need-returns-5
 returns-5 c =
     let read = c .before .before in
-    advanced (read .decode .result) _ _ _ _ _ _ _ _ (read .decode .ensures) (ap (λ q. frontOf q (read .decode .last .1 .0)) (c .enum-told .given .1)) refl refl refl refl
+    advanced (read .decode .result) _ _ _ _ _ _ _ _ (read .decode .ensures) (ap (λ q. frontOf q (read .decode .result .taken) (read .decode .last .1 .0)) (c .enum-told .given .1)) refl refl refl refl
 
 returns-6 : tie.Need-returns-6
 returns-6 c =
     let read = c .before .before in
-    advanced (read .decode .result) _ _ _ _ _ _ _ _ (read .decode .ensures) (ap (λ q. frontOf q (read .decode .last .1 .0)) (c .enum-told2 .given .1)) refl refl refl refl
+    advanced (read .decode .result) _ _ _ _ _ _ _ _ (read .decode .ensures) (ap (λ q. frontOf q (read .decode .result .taken) (read .decode .last .1 .0)) (c .enum-told2 .given .1)) refl refl refl refl
 
 pub advance-spec : {M : Type 1} → statement M
 advance-spec =

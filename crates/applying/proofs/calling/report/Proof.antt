@@ -1,8 +1,5 @@
 -- `applying::calling::report` meets its contract: assigning's answer goes through the tally. Assumes nothing.
 use mathlib.Core.Path.{refl, ap, _∙_}
-use mir.Facts.{toZ-ofZ}
-use mir.Syntax.{w32}
-use mir.Val.{SFits}
 use borrow.Author.Needs.{needs}
 use Rattle.tally.specs.Tally.{tallied, answered}
 use Rattle.wording.specs.Lines.{report}
@@ -11,8 +8,8 @@ use Rattle.applying.specs.Advancing as Told
 use Rattle.applying.proofs.calling.report.Statement.{statement}
 use Rattle.applying.proofs.calling.report.Tie as tie
 
-assign-requires : tie.Need-assign-requires
-assign-requires c κs = search needs
+assign-at-requires : tie.Need-assign-at-requires
+assign-at-requires c κs = search needs
 
 counted-requires : tie.Need-counted-requires
 counted-requires c κs = search needs
@@ -23,11 +20,9 @@ assigned-requires c κs = search needs
 returns : tie.Need-returns
 unfolding replied talliedBy
 returns c =
-    let a = c .before .before .before .before .before .before .before .args in
+    let a = c .before .before .before .before .before .args in
     let counts = c .before .before .counted .ensures in
-    let across : SFits w32 (a .s .x) = search needs in
-    let up : SFits w32 (a .s .y) = search needs in
-    let assigns = simp (toZ-ofZ across, toZ-ofZ up) at (c .before .before .before .assign .ensures) in
+    let assigns = c .before .before .before .assign-at .ensures in
     record {
       told = ap (Told.answered (report (a .s .number))) (c .assigned .ensures ∙ ap belonging (counts .1 ∙ ap (answered (a .tally)) assigns));
       taken = refl;
@@ -35,4 +30,4 @@ returns c =
     }
 
 pub report-spec : {M : Type 1} → statement M
-report-spec = tie.close (tie.spec assign-requires counted-requires assigned-requires returns)
+report-spec = tie.close (tie.spec assign-at-requires counted-requires assigned-requires returns)
