@@ -4,14 +4,19 @@
  * register. Rings, paths, outlines and the store hold x, y, x, y, ..; coordinates are whole millimetres.
  * runs[0] is the outline's number of vertices (0: no outline); runs[1 + d] is where district d's ring begins in the store, counted in
  * vertices, and runs[65 + d] how many vertices it has (0: the number is unused). Read them; only the calls should write them.
- * Every call takes every input: lists of any length and content, any number. What document 01 refuses is answered LAUNCHRAMP_REFUSED, and a
- * refused call changes no list and no count. A list may be of length 0; its pointer must not be null even then. Lists that one call is lent
- * must not overlap where one of them is changed.
+ * Every call takes every input: lists of any length and content, any number, NaNs too. What documents 01 and 02 refuse is answered
+ * LAUNCHRAMP_REFUSED, and a refused call changes no list and no count. A list may be of length 0; its pointer must not be null even then.
+ * Lists that one call is lent must not overlap where one of them is changed.
+ *
+ * A report's position is one of three: a point of the grid (launchramp_assign), a receiver's fix (launchramp_assign_fix) or missing
+ * (launchramp_assign_missing). A fix is an easting and a northing, doubles of metres. Each becomes the nearest millimetre of its exact value,
+ * halves to even: 0.0625 is 62, 0.1875 is 188, -0.0 is 0. Refusal 19 is a missing position, 18 a NaN or an infinity in either value, whatever
+ * the other is; both come after 2. Then comes 5, which goes by the millimetres.
  *
  * An answer is its kind, which is returned, and two values, written to `values`; a value that is not named here is 0:
  *
- *   LAUNCHRAMP_REFUSED   document 01's number of the refusal
- *   LAUNCHRAMP_DONE      the number of the district that was made (split), kept (merge) or founded (0)
+ *   LAUNCHRAMP_REFUSED   the refusal's number in document 01; 18 and 19 are document 02's
+ *   LAUNCHRAMP_DONE      the number of the district that was made (split), kept (merge) or founded (0); of a fix's millimetres 0
  *   LAUNCHRAMP_VERTEX    the index of the lowest vertex that is the point
  *   LAUNCHRAMP_EDGE      the index of the lowest edge that holds the point
  *   LAUNCHRAMP_OFF       the size of the winding number, and 1 where it is negative
@@ -58,7 +63,7 @@ enum {
 /* Where a point lies against one ring: VERTEX, EDGE, OFF; refusals 4, 5. */
 uint32_t launchramp_locate(const int32_t *ring, size_t ring_length, int32_t x, int32_t y, uint64_t *values);
 
-/* Whether the lists are a well-formed register; every other call asks this first and refuses by 1. */
+/* Whether the lists are a well-formed register; every other call on a register asks this first and refuses by 1. */
 bool launchramp_well_formed(const int32_t *outline, size_t outline_length, const int32_t *store, size_t store_length,
                             const uint32_t *runs, size_t runs_length);
 
@@ -83,6 +88,22 @@ uint32_t launchramp_assign(const int32_t *outline, size_t outline_length, const 
 uint32_t launchramp_assign_counted(const int32_t *outline, size_t outline_length, const int32_t *store, size_t store_length,
                                    const uint32_t *runs, size_t runs_length, int32_t x, int32_t y, uint32_t *counts,
                                    uint64_t *values);
+
+/* Writes the millimetres x, y of a fix to `point`, which has two places: DONE; refusals 5, 18, and then `point` stays as it was. */
+uint32_t launchramp_millimetres(double easting, double northing, int32_t *point, uint64_t *values);
+
+/* Sorts a report by a receiver's fix: BORDER, ONE, NONE, SEVERAL; refusals 1, 2, 5, 18. */
+uint32_t launchramp_assign_fix(const int32_t *outline, size_t outline_length, const int32_t *store, size_t store_length,
+                               const uint32_t *runs, size_t runs_length, double easting, double northing, uint64_t *values);
+
+/* The same, and raises its count in a tally of LAUNCHRAMP_COUNTS counts: refusal 14 too, where the count is full. */
+uint32_t launchramp_assign_fix_counted(const int32_t *outline, size_t outline_length, const int32_t *store, size_t store_length,
+                                       const uint32_t *runs, size_t runs_length, double easting, double northing, uint32_t *counts,
+                                       uint64_t *values);
+
+/* Refuses a report whose position is missing: refusals 1, 2, 19. A tally would count nothing. */
+uint32_t launchramp_assign_missing(const int32_t *outline, size_t outline_length, const int32_t *store, size_t store_length,
+                                   const uint32_t *runs, size_t runs_length, uint64_t *values);
 
 #ifdef __cplusplus
 }

@@ -113,6 +113,48 @@ mod c {
             counts: *mut u32,
             values: *mut u64,
         ) -> u32;
+
+        pub fn launchramp_millimetres(
+            easting: f64,
+            northing: f64,
+            point: *mut i32,
+            values: *mut u64,
+        ) -> u32;
+
+        pub fn launchramp_assign_fix(
+            outline: *const i32,
+            outline_length: usize,
+            store: *const i32,
+            store_length: usize,
+            runs: *const u32,
+            runs_length: usize,
+            easting: f64,
+            northing: f64,
+            values: *mut u64,
+        ) -> u32;
+
+        pub fn launchramp_assign_fix_counted(
+            outline: *const i32,
+            outline_length: usize,
+            store: *const i32,
+            store_length: usize,
+            runs: *const u32,
+            runs_length: usize,
+            easting: f64,
+            northing: f64,
+            counts: *mut u32,
+            values: *mut u64,
+        ) -> u32;
+
+        pub fn launchramp_assign_missing(
+            outline: *const i32,
+            outline_length: usize,
+            store: *const i32,
+            store_length: usize,
+            runs: *const u32,
+            runs_length: usize,
+            values: *mut u64,
+        ) -> u32;
     }
 }
 
@@ -260,6 +302,87 @@ pub fn assign_counted(
             x,
             y,
             counts.as_mut_ptr(),
+            values.as_mut_ptr(),
+        )
+    };
+    Answer { kind, values }
+}
+
+/// The answer, and the point, which means nothing where the fix is refused.
+pub fn millimetres(easting: f64, northing: f64) -> (Answer, [i32; 2]) {
+    let mut values = [0; VALUES];
+    let mut point = [0; 2];
+    // SAFETY: `point` has the two places that the library takes it to have, and is this function's
+    // own; `values` is as in `locate`.
+    let kind = unsafe {
+        c::launchramp_millimetres(easting, northing, point.as_mut_ptr(), values.as_mut_ptr())
+    };
+    (Answer { kind, values }, point)
+}
+
+pub fn assign_fix(
+    outline: &[i32],
+    store: &[i32],
+    runs: &[u32],
+    easting: f64,
+    northing: f64,
+) -> Answer {
+    let mut values = [0; VALUES];
+    // SAFETY: as in `assign`.
+    let kind = unsafe {
+        c::launchramp_assign_fix(
+            outline.as_ptr(),
+            outline.len(),
+            store.as_ptr(),
+            store.len(),
+            runs.as_ptr(),
+            runs.len(),
+            easting,
+            northing,
+            values.as_mut_ptr(),
+        )
+    };
+    Answer { kind, values }
+}
+
+pub fn assign_fix_counted(
+    outline: &[i32],
+    store: &[i32],
+    runs: &[u32],
+    easting: f64,
+    northing: f64,
+    counts: &mut [u32; COUNTS],
+) -> Answer {
+    let mut values = [0; VALUES];
+    // SAFETY: as in `assign_counted`.
+    let kind = unsafe {
+        c::launchramp_assign_fix_counted(
+            outline.as_ptr(),
+            outline.len(),
+            store.as_ptr(),
+            store.len(),
+            runs.as_ptr(),
+            runs.len(),
+            easting,
+            northing,
+            counts.as_mut_ptr(),
+            values.as_mut_ptr(),
+        )
+    };
+    Answer { kind, values }
+}
+
+pub fn assign_missing(outline: &[i32], store: &[i32], runs: &[u32]) -> Answer {
+    let mut values = [0; VALUES];
+    // SAFETY: as in `assign`.
+    let kind = unsafe {
+        c::launchramp_assign_missing(
+            outline.as_ptr(),
+            outline.len(),
+            store.as_ptr(),
+            store.len(),
+            runs.as_ptr(),
+            runs.len(),
             values.as_mut_ptr(),
         )
     };

@@ -2,11 +2,11 @@
 //! liblaunchramp.a, whose rules are those of document 01.
 //!
 //! Coordinates are whole millimetres, -1,000,000,000 to 1,000,000,000. Rings and paths are lists
-//! x, y, x, y, .. Every call takes every input; what the rules don't allow is answered by a
-//! [`Refusal`], and a refused call changes nothing.
+//! x, y, x, y, .. A report's position may also be a receiver's fix, in metres. Every call takes every
+//! input; what the rules don't allow is answered by a [`Refusal`], and a refused call changes nothing.
 //!
 //! ```
-//! use launchramp::{Class, Refusal, Register, Tally};
+//! use launchramp::{Class, Position, Refusal, Register, Tally};
 //!
 //! let mut register = Register::new();
 //! register.found(&[0, 0, 4, 0, 4, 4, 0, 4])?;
@@ -14,7 +14,9 @@
 //! let mut tally = Tally::new();
 //! assert_eq!(register.assign_counted(3, 1, &mut tally)?, Class::One(0));
 //! assert_eq!(register.assign_counted(1, 3, &mut tally)?, Class::One(new));
-//! assert_eq!(tally.one(new), 1);
+//! let fix = Position::Fix { easting: 0.001, northing: 0.0031 };
+//! assert_eq!(register.assign_at_counted(fix, &mut tally)?, Class::One(new));
+//! assert_eq!(tally.one(new), 2);
 //! # Ok::<(), Refusal>(())
 //! ```
 #![deny(unsafe_code)]
@@ -63,6 +65,24 @@ pub enum Class {
     None,
     /// Inside more than one.
     Several { lowest: usize, count: usize },
+}
+
+/// A report's position.
+#[derive(Clone, Copy, Debug, PartialEq)]
+pub enum Position {
+    /// Whole millimetres.
+    Grid { x: i32, y: i32 },
+    /// Metres, from a receiver. Each value is taken as the nearest millimetre of its exact value,
+    /// halves to even.
+    Fix { easting: f64, northing: f64 },
+    /// None was sent; refused, by Missing.
+    Missing,
+}
+
+/// The millimetres x, y of a receiver's fix. Refusals: NotFinite, BeyondGrid.
+pub fn millimetres(easting: f64, northing: f64) -> Result<(i32, i32), Refusal> {
+    let (answer, [x, y]) = calls::millimetres(easting, northing);
+    changed(answer).map(|_| (x, y))
 }
 
 /// Where the point (x, y) lies against one closed ring. Refusals: NoRing, BeyondGrid.
@@ -151,20 +171,42 @@ impl Register {
 
     /// Where a report at (x, y) belongs. Refusals: NotWellFormed, NoOutline, BeyondGrid.
     pub fn assign(&self, x: i32, y: i32) -> Result<Class, Refusal> {
-        class(calls::assign(&self.outline, &self.store, &self.runs, x, y))
+        self.assign_at(Position::Grid { x, y })
     }
 
     /// The same, and raises the class's count. Refusals: CountFull too.
     pub fn assign_counted(&self, x: i32, y: i32, tally: &mut Tally) -> Result<Class, Refusal> {
+        self.assign_at_counted(Position::Grid { x, y }, tally)
+    }
+
+    /// Where a report with this position belongs.
+    /// Refusals: NotWellFormed, NoOutline, Missing, NotFinite, BeyondGrid.
+    pub fn assign_at(&self, position: Position) -> Result<Class, Refusal> {
+        let (outline, store, runs) = self.lists();
+        class(match position {
+            Position::Grid { x, y } => calls::assign(outline, store, runs, x, y),
+            Position::Fix { easting, northing } => {
+                calls::assign_fix(outline, store, runs, easting, northing)
+            }
+            Position::Missing => calls::assign_missing(outline, store, runs),
+        })
+    }
+
+    /// The same, and raises the class's count. Refusals: CountFull too.
+    pub fn assign_at_counted(
+        &self,
+        position: Position,
+        tally: &mut Tally,
+    ) -> Result<Class, Refusal> {
+        let (outline, store, runs) = self.lists();
         let counts = &mut tally.counts;
-        class(calls::assign_counted(
-            &self.outline,
-            &self.store,
-            &self.runs,
-            x,
-            y,
-            counts,
-        ))
+        class(match position {
+            Position::Grid { x, y } => calls::assign_counted(outline, store, runs, x, y, counts),
+            Position::Fix { easting, northing } => {
+                calls::assign_fix_counted(outline, store, runs, easting, northing, counts)
+            }
+            Position::Missing => calls::assign_missing(outline, store, runs),
+        })
     }
 
     /// The outline's ring, if there is one.

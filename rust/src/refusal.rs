@@ -2,7 +2,8 @@
 use std::error::Error;
 use std::fmt;
 
-/// Document 01's refusals, but for 13, a broken record: there are no records here.
+/// Document 01's refusals, but for 13, a broken record: there are no records here; and document 02's
+/// of positions.
 #[derive(Clone, Copy, Debug, PartialEq, Eq, Hash)]
 #[non_exhaustive]
 pub enum Refusal {
@@ -19,10 +20,12 @@ pub enum Refusal {
     NumbersInUse = 11,
     NoRoom = 12,
     CountFull = 14,
+    NotFinite = 18,
+    Missing = 19,
 }
 
 impl Refusal {
-    pub const ALL: [Refusal; 13] = [
+    pub const ALL: [Refusal; 15] = [
         Refusal::NotWellFormed,
         Refusal::NoOutline,
         Refusal::OutlineThere,
@@ -36,9 +39,11 @@ impl Refusal {
         Refusal::NumbersInUse,
         Refusal::NoRoom,
         Refusal::CountFull,
+        Refusal::NotFinite,
+        Refusal::Missing,
     ];
 
-    /// Document 01's number.
+    /// The number that the documents give it.
     pub fn number(self) -> u8 {
         self as u8
     }
@@ -60,6 +65,8 @@ impl fmt::Display for Refusal {
             Refusal::NumbersInUse => "all 64 district numbers are in use",
             Refusal::NoRoom => "the districts would have more than 2,048 vertices together",
             Refusal::CountFull => "the count to be raised is as large as it can be",
+            Refusal::NotFinite => "a value of the fix is not a number, or infinite",
+            Refusal::Missing => "the report has no position",
         })
     }
 }

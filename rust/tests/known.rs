@@ -1,5 +1,6 @@
-//! Document 01's known points, its listing, every refusal, and the tally at its limit.
-use launchramp::{locate, Class, Place, Refusal, Register, Tally};
+//! Document 01's known points, its listing, every refusal, and the tally at its limit; document 02's
+//! known fixes.
+use launchramp::{locate, millimetres, Class, Place, Position, Refusal, Register, Tally};
 use launchramp::{COUNTS, NUMBERS, OUTLINE_LENGTH, RUNS_LENGTH, STORE_LENGTH};
 
 const LIMIT: i32 = 1_000_000_000;
@@ -17,6 +18,35 @@ fn founded() -> Register {
     let mut register = Register::new();
     register.found(S).unwrap();
     register
+}
+
+fn fix(easting: f64, northing: f64) -> Position {
+    Position::Fix { easting, northing }
+}
+
+/// Positions that are refused wherever the register is good, and by what.
+fn refused_positions() -> [(Position, Refusal); 6] {
+    [
+        (Position::Missing, Refusal::Missing),
+        (fix(f64::NAN, 0.0), Refusal::NotFinite),
+        (fix(1e300, f64::NEG_INFINITY), Refusal::NotFinite),
+        (fix(0.0, -1e300), Refusal::BeyondGrid),
+        (fix(1_000_000.001, 0.0), Refusal::BeyondGrid),
+        (Position::Grid { x: BEYOND, y: 0 }, Refusal::BeyondGrid),
+    ]
+}
+
+/// All refused positions are refused so, and nothing is counted.
+fn refuses_positions(register: &Register, refusal: impl Fn(Refusal) -> Refusal) {
+    let mut tally = Tally::new();
+    for (position, own) in refused_positions() {
+        let answers = [
+            register.assign_at(position),
+            register.assign_at_counted(position, &mut tally),
+        ];
+        assert_eq!(answers, [Err(refusal(own)); 2], "{position:?}");
+    }
+    assert_eq!(tally, Tally::new());
 }
 
 #[test]
@@ -154,6 +184,7 @@ fn before_an_outline() {
         Err(Refusal::NoOutline)
     );
     assert_eq!(tally, Tally::new());
+    refuses_positions(&register, |_| Refusal::NoOutline);
 }
 
 #[test]
@@ -295,6 +326,7 @@ fn damaged_lists() {
             Err(Refusal::NotWellFormed)
         );
         assert_eq!(tally, Tally::new());
+        refuses_positions(&register, |_| Refusal::NotWellFormed);
         for d in 0..=NUMBERS {
             register.district(d);
         }
@@ -319,6 +351,79 @@ fn a_report_beyond_the_grid() {
         Err(Refusal::BeyondGrid)
     );
     assert_eq!(tally, Tally::new());
+}
+
+#[test]
+fn known_fixes() {
+    for (metres, n) in [
+        (0.0625, 62),
+        (0.1875, 188),
+        (-0.0625, -62),
+        (-0.1875, -188),
+        (0.0, 0),
+        (-0.0, 0),
+        (0.0005, 1),
+        (2.0005, 2001),
+        (-2.0005, -2001),
+        (f64::MIN_POSITIVE, 0),
+        (1_000_000.0, LIMIT),
+        (1_000_000.000_5, LIMIT),
+        (-1_000_000.000_4, -LIMIT),
+    ] {
+        assert_eq!(millimetres(metres, 0.003), Ok((n, 3)), "{metres}");
+        assert_eq!(millimetres(0.003, metres), Ok((3, n)), "{metres}");
+    }
+}
+
+#[test]
+fn fixes_that_are_nowhere() {
+    let signalling = f64::from_bits(0x7FF0_0000_0000_0001);
+    for nothing in [
+        f64::NAN,
+        -f64::NAN,
+        signalling,
+        f64::INFINITY,
+        f64::NEG_INFINITY,
+    ] {
+        for other in [0.0, 1e300, nothing] {
+            assert_eq!(millimetres(nothing, other), Err(Refusal::NotFinite));
+            assert_eq!(millimetres(other, nothing), Err(Refusal::NotFinite));
+        }
+    }
+    for far in [
+        1_000_000.000_500_000_1,
+        -1_000_000.000_6,
+        4_294_967.296,
+        f64::MIN,
+    ] {
+        assert_eq!(millimetres(far, 0.0), Err(Refusal::BeyondGrid), "{far}");
+        assert_eq!(millimetres(0.0, far), Err(Refusal::BeyondGrid), "{far}");
+    }
+}
+
+#[test]
+fn reports_by_position() {
+    let mut register = founded();
+    let mut tally = Tally::new();
+    register.split(0, 0, 2, &[]).unwrap();
+    for (position, class) in [
+        (Position::Grid { x: 3, y: 1 }, Class::One(0)),
+        (fix(0.003, 0.001), Class::One(0)),
+        (fix(0.001, 0.003), Class::One(1)),
+        (fix(0.00251, 0.00149), Class::One(0)),
+        (fix(0.00249, 0.00151), Class::Border(0)),
+        (fix(0.0046, 0.001), Class::None),
+        // As a double a little less than four and a half millimetres.
+        (fix(0.0045, 0.001), Class::Border(0)),
+        (fix(-0.0005, -0.0), Class::None),
+        (fix(-0.0004, -0.0), Class::Border(0)),
+    ] {
+        assert_eq!(register.assign_at(position), Ok(class), "{position:?}");
+        assert_eq!(register.assign_at_counted(position, &mut tally), Ok(class));
+    }
+    assert_eq!((tally.one(0), tally.one(1)), (3, 1));
+    assert_eq!((tally.border(), tally.none()), (3, 2));
+    refuses_positions(&register, |own| own);
 }
 
 #[test]
@@ -351,6 +456,11 @@ fn a_tally_at_its_limit() {
             register.assign_counted(x, y, &mut tally),
             Err(Refusal::CountFull)
         );
+        let in_metres = fix(f64::from(x) / 1000.0, f64::from(y) / 1000.0);
+        assert_eq!(
+            register.assign_at_counted(in_metres, &mut tally),
+            Err(Refusal::CountFull)
+        );
         assert_eq!(tally, full);
         assert_eq!(
             register.assign_counted(BEYOND, y, &mut tally),
@@ -360,9 +470,9 @@ fn a_tally_at_its_limit() {
 }
 
 #[test]
-fn refusals_have_document_01s_numbers() {
+fn refusals_have_the_documents_numbers() {
     let numbers = Refusal::ALL.map(Refusal::number);
-    assert_eq!(numbers, [1, 2, 3, 4, 5, 6, 7, 8, 9, 10, 11, 12, 14]);
+    assert_eq!(numbers, [1, 2, 3, 4, 5, 6, 7, 8, 9, 10, 11, 12, 14, 18, 19]);
     assert_eq!(
         Refusal::NoOutline.to_string(),
         "the register has no outline yet"

@@ -1,15 +1,15 @@
-//! Some 100,000 made calls, to the library and to plain Rust: every answer is compared, and after
+//! Some 120,000 made calls, to the library and to plain Rust: every answer is compared, and after
 //! every change every ring. At the end every answer must have come.
 mod plain;
 
-use launchramp::{locate, Refusal, Register, NUMBERS};
+use launchramp::{locate, millimetres, Position, Refusal, Register, NUMBERS};
 use plain::{shared_edges, Point, Rows};
 use std::collections::BTreeSet;
 use std::fmt::Debug;
 
 const SEED: u64 = 7;
 const LIVES: usize = 500;
-const CALLS_A_LIFE: usize = 200;
+const CALLS_A_LIFE: usize = 240;
 const LIMIT: i32 = 1_000_000_000;
 const BEYOND: i32 = LIMIT + 1;
 
@@ -86,10 +86,12 @@ struct Life<'a> {
 impl Life<'_> {
     fn live(&mut self) {
         for _ in 0..CALLS_A_LIFE {
-            match self.chance.below(10) {
+            match self.chance.below(12) {
                 0 => self.found(),
                 1 => self.locate(),
                 2..=4 => self.assign(),
+                5 => self.assign_at(),
+                6 => self.millimetres(),
                 _ if self.chance.once_in(self.style.merges) => self.merge(),
                 _ => self.split(),
             }
@@ -144,6 +146,25 @@ impl Life<'_> {
         );
     }
 
+    fn assign_at(&mut self) {
+        let position = self.position();
+        let answers = (
+            self.register.assign_at(position),
+            self.rows.assign_at(position),
+        );
+        self.compare("assign_at", answers);
+    }
+
+    fn millimetres(&mut self) {
+        let (x, y) = self.point();
+        let (easting, northing) = (self.metres(x), self.metres(y));
+        let answers = (
+            millimetres(easting, northing),
+            plain::millimetres(easting, northing),
+        );
+        self.compare("millimetres", answers);
+    }
+
     fn locate(&mut self) {
         let n = self.chance.below(40);
         let ring = self.list(n);
@@ -162,6 +183,32 @@ impl Life<'_> {
             0 => (BEYOND, y),
             1 => (x, i32::MIN),
             _ => (x, y),
+        }
+    }
+
+    fn position(&mut self) -> Position {
+        let (x, y) = self.point();
+        match self.chance.below(8) {
+            0 => Position::Missing,
+            1 => Position::Grid { x, y },
+            _ => Position::Fix {
+                easting: self.metres(x),
+                northing: self.metres(y),
+            },
+        }
+    }
+
+    /// A receiver's value: the coordinate's, or half a millimetre or less from it; exact halves; any
+    /// double; now and then what has no place on the grid.
+    fn metres(&mut self, coordinate: i32) -> f64 {
+        let metres = f64::from(coordinate) / 1000.0;
+        match self.chance.below(20) {
+            0 => [f64::NAN, f64::INFINITY, f64::NEG_INFINITY, f64::MAX][self.chance.below(4)],
+            1 => f64::from_bits(self.chance.next()),
+            2..=5 => metres + 0.0005,
+            6..=9 => f64::from(self.chance.between(-16_000_000, 16_000_000)) / 16.0,
+            10..=13 => metres + f64::from(self.chance.between(-500, 500)) * 1e-6,
+            _ => metres,
         }
     }
 
@@ -248,7 +295,7 @@ impl Life<'_> {
 }
 
 /// Every answer of each call but refusals 1 and 14; an accepted change has no name.
-const ANSWERS: [(&str, &[&str]); 5] = [
+const ANSWERS: [(&str, &[&str]); 7] = [
     ("found", &["", "OutlineThere", "NoRing", "BeyondGrid"]),
     (
         "split",
@@ -287,6 +334,20 @@ const ANSWERS: [(&str, &[&str]); 5] = [
             "BeyondGrid",
         ],
     ),
+    (
+        "assign_at",
+        &[
+            "Border",
+            "One",
+            "None",
+            "Several",
+            "NoOutline",
+            "Missing",
+            "NotFinite",
+            "BeyondGrid",
+        ],
+    ),
+    ("millimetres", &["", "NotFinite", "BeyondGrid"]),
     ("locate", &["Vertex", "Edge", "Off", "NoRing", "BeyondGrid"]),
 ];
 

@@ -8,7 +8,7 @@
 
 #define MOST_LIST 8192
 #define KINDS 9
-#define REFUSALS 15
+#define REFUSALS 20
 #define JUNK 0x5A5A5A5A5A5A5A5Au
 
 uint64_t both_calls;
@@ -16,7 +16,8 @@ uint64_t both_calls;
 /* Outcomes: the kinds of answer but REFUSED at their numbers, then the refusals. */
 static uint64_t came[CALLS][KINDS + REFUSALS];
 
-static const char *const call_names[CALLS] = {"locate", "well_formed", "found", "split", "merge", "assign", "assign_counted"};
+static const char *const call_names[CALLS] = {"locate", "well_formed",    "found",      "split",              "merge",
+                                              "assign", "assign_counted", "assign_fix", "assign_fix_counted", "assign_missing"};
 static const char *const kind_names[KINDS] = {"refused", "done", "vertex", "edge", "off", "border", "one", "none", "several"};
 
 #define KIND(kind) (1u << (LAUNCHRAMP_##kind))
@@ -32,7 +33,15 @@ static const uint32_t named[CALLS] = {
     [MERGE] = KIND(DONE) | REFUSAL(1) | REFUSAL(2) | REFUSAL(6) | REFUSAL(7) | REFUSAL(8) | REFUSAL(9) | REFUSAL(10),
     [ASSIGN] = SORTED,
     [ASSIGN_COUNTED] = SORTED | REFUSAL(14),
+    [ASSIGN_FIX] = SORTED | REFUSAL(18),
+    [ASSIGN_FIX_COUNTED] = SORTED | REFUSAL(18) | REFUSAL(14),
+    [ASSIGN_MISSING] = REFUSAL(1) | REFUSAL(2) | REFUSAL(19),
 };
+
+static bool same_answer(struct plain_answer one, struct plain_answer other)
+{
+    return one.kind == other.kind && one.first == other.first && one.second == other.second;
+}
 
 static size_t outcome(struct plain_answer answer)
 {
@@ -43,7 +52,7 @@ bool both_all_reached(void)
 {
     bool all = true;
     for (size_t c = 0; c < CALLS; c++) {
-        printf("  %-16s", call_names[c]);
+        printf("  %-18s", call_names[c]);
         for (size_t o = 0; o < KINDS + REFUSALS; o++) {
             if (o < KINDS && came[c][o] > 0)
                 printf(" %s %" PRIu64, kind_names[o], came[c][o]);
@@ -102,6 +111,9 @@ static void print_call(const struct twice *t, const struct call *call)
                call->number[4]);
     if (call->which == LOCATE || call->which == ASSIGN || call->which == ASSIGN_COUNTED)
         printf(", point %" PRId32 " %" PRId32, call->x, call->y);
+    if (call->which == ASSIGN_FIX || call->which == ASSIGN_FIX_COUNTED)
+        printf(", fix %.17g (%016" PRIx64 ") %.17g (%016" PRIx64 ")", call->easting, exact_bits(call->easting), call->northing,
+               exact_bits(call->northing));
     printf("\n");
     if (call->which == LOCATE || call->which == FOUND || call->which == SPLIT)
         print_list("list", call->list, call->length);
@@ -109,7 +121,7 @@ static void print_call(const struct twice *t, const struct call *call)
         return;
     print_lists("the lists before", &t->before);
     print_lists("the lists afterwards", &t->lists);
-    if (call->which != ASSIGN_COUNTED)
+    if (call->which != ASSIGN_COUNTED && call->which != ASSIGN_FIX_COUNTED)
         return;
     print_counts("the tally afterwards", t->counts, LAUNCHRAMP_COUNTS);
     print_counts("the tally afterwards in plain C", t->plain_counts, LAUNCHRAMP_COUNTS);
@@ -143,6 +155,12 @@ static struct plain_answer plain_call(struct twice *t, const struct call *c)
         return plain_assign(&t->rows, c->x, c->y);
     case ASSIGN_COUNTED:
         return plain_count(t->plain_counts, plain_assign(&t->rows, c->x, c->y));
+    case ASSIGN_FIX:
+        return plain_assign_fix(&t->rows, c->easting, c->northing);
+    case ASSIGN_FIX_COUNTED:
+        return plain_count(t->plain_counts, plain_assign_fix(&t->rows, c->easting, c->northing));
+    case ASSIGN_MISSING:
+        return plain_assign_missing(&t->rows);
     default:
         return well_formed;
     }
@@ -169,6 +187,14 @@ static uint32_t library_call(struct twice *t, const struct call *c, uint64_t *va
     case ASSIGN_COUNTED:
         return launchramp_assign_counted(l->outline, l->outline_length, l->store, l->store_length, l->runs, l->runs_length, c->x, c->y,
                                          t->counts, values);
+    case ASSIGN_FIX:
+        return launchramp_assign_fix(l->outline, l->outline_length, l->store, l->store_length, l->runs, l->runs_length, c->easting,
+                                     c->northing, values);
+    case ASSIGN_FIX_COUNTED:
+        return launchramp_assign_fix_counted(l->outline, l->outline_length, l->store, l->store_length, l->runs, l->runs_length, c->easting,
+                                             c->northing, t->counts, values);
+    case ASSIGN_MISSING:
+        return launchramp_assign_missing(l->outline, l->outline_length, l->store, l->store_length, l->runs, l->runs_length, values);
     default:
         values[1] = 0;
         values[0] = launchramp_well_formed(l->outline, l->outline_length, l->store, l->store_length, l->runs, l->runs_length) ? 0
@@ -218,7 +244,7 @@ struct plain_answer both_ask(struct twice *t, const struct call *call)
     got.kind = library_call(t, call, values);
     got.first = values[0];
     got.second = values[1];
-    if (got.kind != expected.kind || got.first != expected.first || got.second != expected.second || values[LAUNCHRAMP_VALUES] != JUNK)
+    if (!same_answer(got, expected) || values[LAUNCHRAMP_VALUES] != JUNK)
         differ(t, call, "the answer", got, expected);
     if (memcmp(lent, call->list, bytes) != 0)
         differ(t, call, "the lent list was changed", got, expected);
@@ -226,6 +252,13 @@ struct plain_answer both_ask(struct twice *t, const struct call *call)
         compare_lists(t, call, got, expected);
     came[call->which][outcome(got)]++;
     return got;
+}
+
+void both_ask_alike(struct twice *t, const struct call *one, const struct call *other)
+{
+    struct plain_answer first = both_ask(t, one), second = both_ask(t, other);
+    if (!same_answer(first, second))
+        differ(t, other, "from the answer to the call before", second, first);
 }
 
 /* In small pieces: the C library copies large ones by an instruction that takes the kit's emulator a byte at a time. */

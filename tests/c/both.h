@@ -27,7 +27,19 @@ struct twice {
     uint32_t plain_counts[LAUNCHRAMP_COUNTS + BOTH_SPARE];
 };
 
-enum which { LOCATE, WELL_FORMED, FOUND, SPLIT, MERGE, ASSIGN, ASSIGN_COUNTED, CALLS };
+enum which {
+    LOCATE,
+    WELL_FORMED,
+    FOUND,
+    SPLIT,
+    MERGE,
+    ASSIGN,
+    ASSIGN_COUNTED,
+    ASSIGN_FIX,
+    ASSIGN_FIX_COUNTED,
+    ASSIGN_MISSING,
+    CALLS
+};
 
 struct call {
     enum which which;
@@ -37,6 +49,7 @@ struct call {
     const int32_t *list;
     size_t length;
     int32_t x, y;
+    double easting, northing;
 };
 
 /* How many calls were made so far. */
@@ -52,6 +65,9 @@ void both_remember(struct twice *t);
 
 /* Makes the call; `t` is not needed for LOCATE. The answer is the one that both gave. WELL_FORMED is told as DONE or as refusal 1. */
 struct plain_answer both_ask(struct twice *t, const struct call *call);
+
+/* Makes two calls that must have the same answer. */
+void both_ask_alike(struct twice *t, const struct call *one, const struct call *other);
 
 /* Prints how often each answer and each refusal came. False, and a line that says so, where launchramp.h names one that never came, or does
  * not name one that did. */

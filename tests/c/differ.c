@@ -1,10 +1,11 @@
-/* differ [SEED]: the library against plain.c on made calls: rings and points, the lives of registers, damaged registers, tallies. It prints
- * a line for each part, then how often each answer came of each call. Status 1 where anything differs, or where launchramp.h names an answer
- * that never came. */
+/* differ [SEED]: the library against plain.c on made calls: rings and points, the lives of registers, damaged registers, tallies, reports in
+ * metres. It prints a line for each part, then how often each answer came of each call. Status 1 where anything differs, or where
+ * launchramp.h names an answer that never came. */
 #include "both.h"
 #include "chance.h"
 
 #include <inttypes.h>
+#include <math.h>
 #include <stdio.h>
 #include <stdlib.h>
 #include <string.h>
@@ -118,7 +119,7 @@ static struct plain_point make_point(const int32_t *list, size_t length, struct 
 
 static void locate(const struct made_list *ring, struct plain_point r)
 {
-    struct call call = {LOCATE, {0}, ring->at, ring->length, r.x, r.y};
+    struct call call = {.which = LOCATE, .list = ring->at, .length = ring->length, .x = r.x, .y = r.y};
     both_ask(NULL, &call);
 }
 
@@ -241,7 +242,7 @@ static struct call make_split(const struct plain_register *g, struct land land)
     if (once_in(12))
         spoil_path();
     size_t i = below(n), j = once_in(20) || n < 2 ? i : (i + 1 + below(n - 1)) % n;
-    struct call call = {SPLIT, {d, i, j}, path.at, path.length, 0, 0};
+    struct call call = {.which = SPLIT, .number = {d, i, j}, .list = path.at, .length = path.length};
     if (once_in(20))
         call.number[0] = spoiled_number(d);
     if (once_in(20))
@@ -323,7 +324,7 @@ static struct call undoing;
 static struct call make_merge(const struct plain_register *g)
 {
     size_t kept = some_district(g);
-    struct call call = {MERGE, {kept, 0, another_district(g, kept), 0, 1}, NO_LIST, 0, 0, 0};
+    struct call call = {.which = MERGE, .number = {kept, 0, another_district(g, kept), 0, 1}, .list = NO_LIST};
     if (undoing.which == MERGE && once_in(2))
         call = undoing;
     else
@@ -335,15 +336,38 @@ static struct call make_merge(const struct plain_register *g)
     return call;
 }
 
+static double metres(int32_t millimetres)
+{
+    return millimetres / 1000.0;
+}
+
+/* A receiver's value: near a coordinate, so that a half or less of a millimetre may decide, or one that has no place on the grid. */
+static double made_metres(int32_t coordinate)
+{
+    static const double odd[] = {NAN, -NAN, INFINITY, -INFINITY, 1e300, -1e300, 4e-320, -0.0, 1000000.0005, 1000000.0006, -1000000.0006};
+    switch (below(8)) {
+    case 0:
+        return odd[below(LENGTH(odd))];
+    case 1:
+        return metres(coordinate) + (once_in(2) ? 0.0005 : -0.0005);
+    case 2:
+        return metres(coordinate) + chance_between(&chance, -PLAIN_LIMIT, PLAIN_LIMIT) * 1e-12;
+    default:
+        return metres(coordinate);
+    }
+}
+
 static struct call make_report(enum which which, const struct plain_register *g, struct land land)
 {
     const struct plain_ring *near = &g->district[some_district(g)];
     struct plain_point r = make_point((const int32_t *)near->at, 2 * near->n, land);
-    struct call call = {which, {0}, NO_LIST, 0, r.x, r.y};
+    struct call call = {.which = which, .list = NO_LIST, .x = r.x, .y = r.y};
     if (once_in(40))
         call.x = beyond();
     if (once_in(40))
         call.y = beyond();
+    call.easting = made_metres(call.x);
+    call.northing = made_metres(call.y);
     return call;
 }
 
@@ -356,13 +380,13 @@ static struct call make_founding(struct land land, size_t vertices)
         ring.length++;
     if (once_in(6))
         ring.at[below(ring.length)] = beyond();
-    struct call call = {FOUND, {0}, ring.at, ring.length, 0, 0};
+    struct call call = {.which = FOUND, .list = ring.at, .length = ring.length};
     return call;
 }
 
 static struct call make_call(enum which which, const struct plain_register *g, struct land land)
 {
-    struct call well_formed = {WELL_FORMED, {0}, NO_LIST, 0, 0, 0};
+    struct call well_formed = {.which = WELL_FORMED, .list = NO_LIST};
     switch (which) {
     case FOUND:
         return make_founding(land, PLAIN_FEWEST_VERTICES + below(6));
@@ -370,11 +394,10 @@ static struct call make_call(enum which which, const struct plain_register *g, s
         return make_split(g, land);
     case MERGE:
         return make_merge(g);
-    case ASSIGN:
-    case ASSIGN_COUNTED:
-        return make_report(which, g, land);
-    default:
+    case WELL_FORMED:
         return well_formed;
+    default:
+        return make_report(which, g, land);
     }
 }
 
@@ -533,7 +556,8 @@ static void start_empty(struct twice *t)
 /* Remembers how to undo an accepted split: the pieces' border begins at the last vertex of piece one's part of the ring. */
 static void remember_split(const struct call *split, size_t n, size_t made)
 {
-    struct call undo = {MERGE, {split->number[0], (split->number[2] + n - split->number[1]) % n, made, 0, split->length / 2 + 1}, NO_LIST, 0, 0, 0};
+    size_t a = (split->number[2] + n - split->number[1]) % n;
+    struct call undo = {.which = MERGE, .number = {split->number[0], a, made, 0, split->length / 2 + 1}, .list = NO_LIST};
     undoing = undo;
 }
 
@@ -582,7 +606,8 @@ static void found(struct land land, size_t vertices)
 /* So many steps, of ten of which `splits` are splits and `merges` are merges. */
 static void live(struct land land, int steps, size_t splits, size_t merges)
 {
-    static const enum which others[] = {WELL_FORMED, FOUND, ASSIGN, ASSIGN, ASSIGN_COUNTED, ASSIGN_COUNTED};
+    static const enum which others[] = {WELL_FORMED,    FOUND,          ASSIGN,     ASSIGN,
+                                        ASSIGN_COUNTED, ASSIGN_COUNTED, ASSIGN_FIX, ASSIGN_FIX_COUNTED};
     for (int t = 0; t < steps; t++) {
         size_t step = below(10);
         if (step < splits)
@@ -647,7 +672,31 @@ static void count_to_the_limit(void)
     for (int t = 0; t < 60; t++) {
         if (once_in(4))
             make_tally(&life);
-        ask(&life, ASSIGN_COUNTED, land);
+        ask(&life, once_in(2) ? ASSIGN_COUNTED : ASSIGN_FIX_COUNTED, land);
+    }
+}
+
+/* A report on the grid, and again in metres. */
+static void ask_in_both_units(enum which on_grid, enum which as_fix, struct land land)
+{
+    struct call one = make_report(on_grid, &life.rows, land), other = one;
+    other.which = as_fix;
+    other.easting = metres(one.x);
+    other.northing = metres(one.y);
+    both_ask_alike(&life, &one, &other);
+}
+
+static void report_in_metres(void)
+{
+    struct land land = some_land();
+    found(land, PLAIN_FEWEST_VERTICES + below(6));
+    live(land, 20, 7, 1);
+    memset(life.counts, 0, sizeof life.counts);
+    memset(life.plain_counts, 0, sizeof life.plain_counts);
+    for (int t = 0; t < 30; t++) {
+        ask_in_both_units(ASSIGN, ASSIGN_FIX, land);
+        ask_in_both_units(ASSIGN_COUNTED, ASSIGN_FIX_COUNTED, land);
+        ask(&life, ASSIGN_FIX, land);
     }
 }
 
@@ -675,6 +724,7 @@ int main(int count, char **words)
     part("registers with a full store", 200, live_with_a_full_store);
     part("damaged registers", 1200, live_damaged);
     part("tallies at their limit", 1000, count_to_the_limit);
+    part("reports in metres", 600, report_in_metres);
     printf("%" PRIu64 " calls; how often each answer and each [refusal] came:\n", both_calls);
     return both_all_reached() ? 0 : 1;
 }

@@ -9,6 +9,7 @@ bool asks_every_call(int32_t *outline, int32_t *store, uint32_t *runs, const int
     const size_t o = LAUNCHRAMP_OUTLINE_LENGTH;
     const size_t s = LAUNCHRAMP_STORE_LENGTH;
     const size_t r = LAUNCHRAMP_RUNS_LENGTH;
+    int32_t point[2];
     uint64_t values[LAUNCHRAMP_VALUES];
     return launchramp_locate(ring, 8, 2, 2, values) == LAUNCHRAMP_OFF &&
            launchramp_found(outline, o, store, s, runs, r, ring, 8, values) == LAUNCHRAMP_DONE &&
@@ -16,5 +17,9 @@ bool asks_every_call(int32_t *outline, int32_t *store, uint32_t *runs, const int
            launchramp_merge(outline, o, store, s, runs, r, 0, 2, 1, 0, 1, values) == LAUNCHRAMP_DONE &&
            launchramp_assign(outline, o, store, s, runs, r, 2, 2, values) == LAUNCHRAMP_ONE &&
            launchramp_assign_counted(outline, o, store, s, runs, r, 2, 2, counts, values) == LAUNCHRAMP_ONE &&
+           launchramp_millimetres(0.002, 0.002, point, values) == LAUNCHRAMP_DONE &&
+           launchramp_assign_fix(outline, o, store, s, runs, r, 0.002, 0.002, values) == LAUNCHRAMP_ONE &&
+           launchramp_assign_fix_counted(outline, o, store, s, runs, r, 0.002, 0.002, counts, values) == LAUNCHRAMP_ONE &&
+           launchramp_assign_missing(outline, o, store, s, runs, r, values) == LAUNCHRAMP_REFUSED &&
            launchramp_well_formed(outline, o, store, s, runs, r);
 }

@@ -1,4 +1,4 @@
-/* What plain.h promises. Functions that document 01 names follow its order of refusals. */
+/* What plain.h promises. Calls that documents 01 and 02 name follow their order of refusals. */
 #include "plain.h"
 
 #include <string.h>
@@ -271,6 +271,31 @@ struct plain_answer plain_assign(const struct plain_register *g, int32_t x, int3
     if (beyond(x) || beyond(y))
         return refused(BEYOND_GRID);
     return sorted(g, r);
+}
+
+struct plain_answer plain_place(struct exact easting, struct exact northing, struct plain_point *point)
+{
+    if (!easting.finite || !northing.finite)
+        return refused(NOT_FINITE);
+    if (beyond(easting.millimetres) || beyond(northing.millimetres))
+        return refused(BEYOND_GRID);
+    point->x = (int32_t)easting.millimetres;
+    point->y = (int32_t)northing.millimetres;
+    return told(LAUNCHRAMP_DONE, 0, 0);
+}
+
+struct plain_answer plain_assign_fix(const struct plain_register *g, double easting, double northing)
+{
+    struct plain_point r;
+    if (g->outline.n == 0)
+        return refused(NO_OUTLINE);
+    struct plain_answer placed = plain_place(exact_of(easting), exact_of(northing), &r);
+    return placed.kind == LAUNCHRAMP_REFUSED ? placed : sorted(g, r);
+}
+
+struct plain_answer plain_assign_missing(const struct plain_register *g)
+{
+    return refused(g->outline.n == 0 ? NO_OUTLINE : MISSING);
 }
 
 static uint32_t *count_of(uint32_t *counts, struct plain_answer sorted)

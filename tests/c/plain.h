@@ -4,6 +4,7 @@
 #ifndef PLAIN_H
 #define PLAIN_H
 
+#include "exact.h"
 #include "launchramp.h"
 
 #define PLAIN_NUMBERS 64
@@ -11,7 +12,7 @@
 #define PLAIN_MOST_VERTICES 2048
 #define PLAIN_LIMIT 1000000000
 
-/* The refusals by document 01's numbers. */
+/* The refusals by the numbers of documents 01 and 02. */
 enum {
     NOT_WELL_FORMED = 1,
     NO_OUTLINE = 2,
@@ -25,7 +26,9 @@ enum {
     NO_MATCH = 10,
     NUMBERS_IN_USE = 11,
     NO_ROOM = 12,
-    COUNT_FULL = 14
+    COUNT_FULL = 14,
+    NOT_FINITE = 18,
+    MISSING = 19
 };
 
 /* Laid out as two numbers x, y of a list. */
@@ -57,6 +60,11 @@ struct plain_answer plain_found(struct plain_register *g, const int32_t *list, s
 struct plain_answer plain_split(struct plain_register *g, size_t d, size_t i, size_t j, const int32_t *path, size_t length);
 struct plain_answer plain_merge(struct plain_register *g, size_t kept, size_t a, size_t gone, size_t b, size_t k);
 struct plain_answer plain_assign(const struct plain_register *g, int32_t x, int32_t y);
+struct plain_answer plain_assign_fix(const struct plain_register *g, double easting, double northing);
+struct plain_answer plain_assign_missing(const struct plain_register *g);
+
+/* Where a fix is on the grid; `point` is left as it was where that is refused. */
+struct plain_answer plain_place(struct exact easting, struct exact northing, struct plain_point *point);
 
 /* The answer to a report after counting it in a tally of LAUNCHRAMP_COUNTS counts. */
 struct plain_answer plain_count(uint32_t *counts, struct plain_answer sorted);

@@ -1,7 +1,9 @@
 //! Document 01 again in plain Rust, to compare the library with; only the answers' types are shared.
 //! Winding numbers are counted by the crossing rule, determinants have 128 bits, and every district
-//! is a row of its own. Refusal 1 is not given here: rows have no way to be damaged.
-use launchramp::{Class, Place, Refusal, NUMBERS};
+//! is a row of its own; a fix is rounded by its decimals. Refusal 1 is not given here: rows have no
+//! way to be damaged.
+use launchramp::{Class, Place, Position, Refusal, NUMBERS};
+use std::cmp::Ordering;
 
 const LIMIT: i32 = 1_000_000_000;
 const FEWEST_VERTICES: usize = 3;
@@ -106,6 +108,16 @@ impl Rows {
         })
     }
 
+    pub fn assign_at(&self, position: Position) -> Result<Class, Refusal> {
+        refuse_if(self.outline.is_none(), Refusal::NoOutline)?;
+        let (x, y) = match position {
+            Position::Grid { x, y } => (x, y),
+            Position::Fix { easting, northing } => millimetres(easting, northing)?,
+            Position::Missing => return Err(Refusal::Missing),
+        };
+        self.assign(x, y)
+    }
+
     fn district(&self, d: usize) -> Result<&Ring, Refusal> {
         refuse_if(self.outline.is_none(), Refusal::NoOutline)?;
         let row = self.districts.get(d).and_then(Option::as_ref);
@@ -115,6 +127,31 @@ impl Rows {
     fn vertices(&self) -> usize {
         self.districts.iter().flatten().map(Vec::len).sum()
     }
+}
+
+pub fn millimetres(easting: f64, northing: f64) -> Result<Point, Refusal> {
+    let finite = easting.is_finite() && northing.is_finite();
+    refuse_if(!finite, Refusal::NotFinite)?;
+    let x = nearest(easting).ok_or(Refusal::BeyondGrid)?;
+    let y = nearest(northing).ok_or(Refusal::BeyondGrid)?;
+    on_grid(&[(x, y)])?;
+    Ok((x, y))
+}
+
+/// The nearest millimetre, halves to even, if it fits: all decimals are written out, of which a
+/// double has at most 1,074, and those behind the third compared with 5000..
+fn nearest(metres: f64) -> Option<i32> {
+    let written = format!("{:.1074}", metres.abs());
+    let (whole, decimals) = written.split_once('.')?;
+    let (three, rest) = decimals.split_at(3);
+    let below: i64 = format!("{whole}{three}").parse().ok()?;
+    let half = format!("{:0<1071}", "5");
+    let size = match rest.cmp(&half) {
+        Ordering::Less => below,
+        Ordering::Equal => below + below % 2,
+        Ordering::Greater => below + 1,
+    };
+    i32::try_from(if metres < 0.0 { -size } else { size }).ok()
 }
 
 /// How many edges the two rings share, A's from vertex a forward and B's from vertex b backward; at
