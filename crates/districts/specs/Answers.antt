@@ -1,4 +1,4 @@
--- Document 01's answers to a report, with the numbers of the refusals, and how the code's enums say them. Assumes nothing.
+-- The documents' answers to a report, with the numbers of the refusals, and how the code's enums say them. Assumes nothing.
 use Prim.Native.Nat.{ℕ}
 use Rattle.districts.specs.declared.Refusal.{Refusal}
 use Rattle.districts.specs.declared.Refusal.the-variants.{NotWellFormed, NoOutline, OutlineThere, NoRing, BeyondGrid, CountFull, NotFinite, Missing}

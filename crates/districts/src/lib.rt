@@ -30,7 +30,7 @@ pub const NUMBERS: usize = 64;
 // The most vertices that a ring, and that all districts together, may have.
 pub const MOST_VERTICES: usize = 2048;
 
-// Why a call is refused; specs/Answers.antt has document 01's number for each.
+// Why a call is refused; specs/Answers.antt has the number for each, document 02's for the last two.
 pub enum Refusal {
     NotWellFormed,
     NoOutline,
@@ -42,7 +42,7 @@ pub enum Refusal {
     Missing,
 }
 
-// Document 01's number of a refusal.
+// A refusal's number in the documents.
 pub fn refusal_number(r: Refusal) -> usize
     ensures { λ n. ⌜ n ≡ numberOf r ⌝ }
 {
