@@ -2,14 +2,16 @@
 use Prim.Native.Nat.{ℕ}
 use mathlib.Core.Path.{_≡_, refl, sym, _∙_}
 use mathlib.Core.List.{List}
+use lib.IntN.{ℤ}
 use Rattle.districts.specs.Register.{Register}
 use Rattle.districts.specs.Answers.{Answer}
 use Rattle.register.specs.Verdict.{Verdict}
 use Rattle.register.specs.Calls.{Lists, formed, means}
 use Rattle.register.proofs.Unique.{both-left}
+use Rattle.fixes.specs.declared.Placed.{Placed}
 use Rattle.launchramp.specs.Codes.{Code, Tells}
 use Rattle.launchramp.specs.Counts.{tallyOf}
-use Rattle.launchramp.specs.Calls.{ToldBy, CountTells}
+use Rattle.launchramp.specs.Calls.{ToldBy, CountTells, PlaceTells}
 
 pub one-told : (r s : ℕ) (values values′ : List ℕ) (c : Code) → Tells r values c → Tells s values′ c → (r ≡ s) × (values ≡ values′)
 one-told r s values values′ c p q = (p .kind ∙ sym (q .kind), p .values ∙ sym (q .values))
@@ -29,3 +31,8 @@ pub one-counted : (r s : ℕ) (values values′ : List ℕ) (a : Answer) (before
 one-counted r s values values′ a before after after′ p q =
     let told = one-told r s values values′ _ (p .tells) (q .tells) in
     (told .0, told .1, p .tally ∙ sym (q .tally))
+
+pub one-placed : (r s : ℕ) (values values′ : List ℕ) (p : Placed) (before after after′ : List ℤ) → PlaceTells r values p before after → PlaceTells s values′ p before after′ → (r ≡ s) × (values ≡ values′) × (after ≡ after′)
+one-placed r s values values′ p before after after′ t u =
+    let told = one-told r s values values′ _ (t .tells) (u .tells) in
+    (told .0, told .1, t .left ∙ sym (u .left))

@@ -10,10 +10,15 @@ use lib.IntN.{ℤ, pos, negsuc, natAbs, _-ℤ_}
 use lib.Signed.{ltZ, nonNeg}
 use mir.Syntax.{w32, w64}
 use mir.Val.{Fits, SFits}
+use Rattle.fixes.specs.declared.Placed.{Placed}
 use Rattle.launchramp.specs.Codes.{Code, code, offCode, Tells}
+use Rattle.launchramp.specs.Calls.{PlaceTells}
 
 pub tells-as : {r : ℕ} {values : List ℕ} {c d : Code} → c ≡ d → Tells r values c → Tells r values d
 tells-as {r = r} {values = values} e t = subst (Tells r values) e t
+
+pub places-as : {r : ℕ} {values : List ℕ} {p q : Placed} {before after : List ℤ} → p ≡ q → PlaceTells r values p before after → PlaceTells r values q before after
+places-as {r = r} {values = values} {before = before} {after = after} e t = subst (λ p. PlaceTells r values p before after) e t
 
 -- what a cast to 64 unsigned bits asks
 abbrev Counts : ℤ → Type 0

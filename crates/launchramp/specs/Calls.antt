@@ -1,4 +1,4 @@
--- What the exported changes of a register answer and leave: what the calls of `register` and `changes` do, told as a code. Assumes nothing.
+-- What the exported calls answer and leave: what the calls of `register`, `changes`, `tally` and `fixes` do, told as a code. Assumes nothing.
 use Prim.Native.Nat.{ℕ}
 use mathlib.Core.Path.{_≡_}
 use mathlib.Core.List.{List, [], _∷_}
@@ -48,6 +48,7 @@ pointFor (OnGrid x y) before = x ∷ y ∷ []
 pointFor BeyondGrid before = before
 pointFor NotFinite before = before
 
+-- a fix that was placed
 pub record PlaceTells (r : ℕ) (values : List ℕ) (p : Placed) (before after : List ℤ) : Type 0 where
   pub tells : Tells r values (placedCode p)
   pub left : after ≡ pointFor p before

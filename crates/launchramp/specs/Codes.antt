@@ -22,7 +22,7 @@ code k a b = record { kind = k; values = a ∷ b ∷ [] }
 abbrev pub refusedCode : ℕ → Code
 refusedCode n = code 0 n 0
 
--- done, with the number of the district that was made or kept; founding makes district 0
+-- done, with the number of the district that was made or kept; founding makes district 0, and for a fix on the grid it is 0 too
 abbrev pub doneCode : ℕ → Code
 doneCode d = code 1 d 0
 

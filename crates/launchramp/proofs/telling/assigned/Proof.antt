@@ -1,8 +1,8 @@
 -- `launchramp::telling::assigned` meets its contract. Assumes nothing.
-use mathlib.Core.Path.{ap, sym, _∙_}
+use mathlib.Core.Path.{ap, sym}
 use borrow.Author.Needs.{needs}
 use Rattle.districts.specs.Answers.{answerOf}
-use Rattle.launchramp.specs.Codes.{refusedCode, answerCode}
+use Rattle.launchramp.specs.Codes.{answerCode}
 use Rattle.launchramp.proofs.Values.{tells-as}
 use Rattle.launchramp.proofs.telling.assigned.Statement.{statement}
 use Rattle.launchramp.proofs.telling.assigned.Tie as tie
@@ -16,28 +16,15 @@ class-requires c κs = search needs
 enum-known-a-2 : tie.Need-enum-known-a-2
 enum-known-a-2 c = search needs
 
-refusal-number-requires : tie.Need-refusal-number-requires
-refusal-number-requires c κs = search needs
-
-told-requires : tie.Need-told-requires
-told-requires c κs = search needs
+refused-requires : tie.Need-refused-requires
+refused-requires c κs = search needs
 
 returns : tie.Need-returns
 returns c = search needs
 
 returns-2 : tie.Need-returns-2
-returns-2 c =
-    let numbered = c .before .before in
-    tells-as (ap refusedCode (numbered .refusal-number .ensures) ∙ sym (ap (λ a. answerCode (answerOf a)) (numbered .before .before .a2 .given .1))) (c .told .ensures)
+returns-2 c = tells-as (sym (ap (λ a. answerCode (answerOf a)) (c .before .before .before .a2 .given .1))) (c .refused .ensures)
 
 pub assigned-spec : {M : Type 1} → statement M
 assigned-spec =
-    tie.close
-    (tie.spec
-    enum-known-a
-    class-requires
-    enum-known-a-2
-    refusal-number-requires
-    told-requires
-    returns
-    returns-2)
+    tie.close (tie.spec enum-known-a class-requires enum-known-a-2 refused-requires returns returns-2)
