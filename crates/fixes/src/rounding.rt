@@ -3,7 +3,6 @@
 ghost use mathlib.Core.Path.{_≡_};
 ghost use mathlib.Core.Bool.{true};
 ghost use Prim.Native.Nat.{_^_, _<_};
-ghost use lib.IntN.{pos};
 ghost use Rattle.fixes.specs.Nearest.{finite as isFinite};
 ghost use Rattle.fixes.specs.Millimetres.{rounded, sizeOf, StandsFor};
 

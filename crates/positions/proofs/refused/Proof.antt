@@ -9,7 +9,6 @@ use Rattle.districts.specs.Lists.{meaning}
 use Rattle.districts.specs.Register.{Register}
 use Rattle.districts.specs.WellFormed.{wellFormed}
 use Rattle.districts.proofs.Sound.{runs-length}
-use Rattle.register.specs.Verdict.{Verdict}
 use Rattle.register.specs.Sorting.{inUse, given}
 use Rattle.register.proofs.Rooms.{outline-in-use}
 use Rattle.register.proofs.Verdicts.{stops-at, passes}
