@@ -1,4 +1,7 @@
-// Document 01's listing of edits and its known point of a split, each call printed with the packed register's answer.
+// Document 01's listing of edits, its known point of a split, and reports by position, each call printed with the packed register's answer.
+mod calls;
+
+use calls::List;
 use lines::known;
 use lines::said;
 use lines::say;
@@ -16,66 +19,7 @@ const LISTED: usize = 8;
 
 const OVER_THE_TOP: usize = 4;
 
-// Document 01's listing, whose splits have no path.
-fn listed(k: usize) -> Edit {
-    match k {
-        0 => Edit::Outline,
-        1 => Edit::Split { d: 0, i: 0, j: 2 },
-        2 => Edit::Report {
-            number: 700,
-            x: 3,
-            y: 1,
-        },
-        3 => Edit::Report {
-            number: 701,
-            x: 2,
-            y: 2,
-        },
-        4 => Edit::Report {
-            number: 702,
-            x: 9,
-            y: 9,
-        },
-        5 => Edit::Split { d: 1, i: 0, j: 1 },
-        6 => Edit::Merge {
-            kept: 0,
-            a: 2,
-            gone: 1,
-            b: 0,
-            k: 1,
-        },
-        _ => Edit::Report {
-            number: 703,
-            x: 2,
-            y: 2,
-        },
-    }
-}
-
-// A split along a path that leaves the square.
-fn over_the_top(k: usize) -> Edit {
-    match k {
-        0 => Edit::Outline,
-        1 => Edit::Split { d: 0, i: 0, j: 1 },
-        2 => Edit::Report {
-            number: 0,
-            x: 2,
-            y: 6,
-        },
-        _ => Edit::Report {
-            number: 1,
-            x: 2,
-            y: 2,
-        },
-    }
-}
-
-fn edit_at(over: bool, k: usize) -> Edit {
-    if over {
-        return over_the_top(k);
-    }
-    listed(k)
-}
+const POSITIONS: usize = 14;
 
 // Prints one call as document 01 does.
 fn print(edit: Edit, both: Both) {
@@ -90,10 +34,9 @@ fn print(edit: Edit, both: Both) {
             k: _,
         } => said::both(b"merge ", both),
         Edit::Report {
-            number: _,
-            x: _,
-            y: _,
-        } => said::reported(both),
+            number,
+            position: _,
+        } => said::reported(number, both),
     }
 }
 
@@ -110,7 +53,7 @@ fn perform_all(
     rows: &mut [i32],
     sizes: &mut [usize],
     name: &[u8],
-    over: bool,
+    list: List,
     last: usize,
     ring: &[i32],
     path: &[i32],
@@ -121,7 +64,7 @@ fn perform_all(
     let mut c = Counts::new();
     let mut k = 0;
     while k < last {
-        let e = edit_at(over, k);
+        let e = calls::call(list, k);
         let both = edit::perform(outline, store, runs, rows, sizes, e, ring, path);
         c = counted(name, e, both, c);
         k += 1;
@@ -142,25 +85,33 @@ fn winding(name: &[u8], store: &[i32], runs: &[u32], d: usize, t: Score) -> Scor
     known::known(name, &store[from..to], 2, 6, t)
 }
 
-pub fn listing(t: Score) -> Score {
+// So many calls of a list, whose splits have no path.
+fn performed(name: &[u8], list: List, last: usize) -> Counts {
     let mut outline = [0i32; districts::OUTLINE_LENGTH];
     let mut store = [0i32; districts::STORE_LENGTH];
     let mut runs = [0u32; districts::RUNS_LENGTH];
     let mut rows = [0i32; rows::ROWS_LENGTH];
     let mut sizes = [0usize; rows::ROWS];
-    let c = perform_all(
+    perform_all(
         &mut outline,
         &mut store,
         &mut runs,
         &mut rows,
         &mut sizes,
-        b"listing: ",
-        false,
-        LISTED,
+        name,
+        list,
+        last,
         &[0, 0, 4, 0, 4, 4, 0, 4],
         &[],
-    );
-    t.with_registers(c)
+    )
+}
+
+pub fn listing(t: Score) -> Score {
+    t.with_registers(performed(b"listing: ", List::Listing, LISTED))
+}
+
+pub fn positions(t: Score) -> Score {
+    t.with_registers(performed(b"positions: ", List::Positions, POSITIONS))
 }
 
 pub fn known_split(t: Score) -> Score {
@@ -176,7 +127,7 @@ pub fn known_split(t: Score) -> Score {
         &mut rows,
         &mut sizes,
         b"path over the top: ",
-        true,
+        List::OverTheTop,
         OVER_THE_TOP,
         &[0, 0, 4, 0, 4, 4, 0, 4],
         &[2, 9],

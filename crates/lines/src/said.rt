@@ -43,8 +43,9 @@ pub fn outlined(b: Both) {
     both(b"outline ", b);
 }
 
-pub fn reported(b: Both) {
-    say::counted(b"report ", b.packed.report);
+// A refused report shows its number too.
+pub fn reported(number: u32, b: Both) {
+    say::counted(b"report ", number as usize);
     both(b" ", b);
 }
 

@@ -16,7 +16,7 @@ pub fn point(x: i32, y: i32) {
     text(b"): ");
 }
 
-fn signed(before: &[u8], x: i32) {
+pub fn signed(before: &[u8], x: i32) {
     text(before);
     if x < 0 {
         text(b"-");

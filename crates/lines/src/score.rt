@@ -54,12 +54,16 @@ impl Score {
         self
     }
 
-    // With what came of registers.
-    pub fn with_registers(mut self, c: Counts) -> Score {
-        self.asked = sum(self.asked, c.asked);
-        self.differ = sum(self.differ, c.differ);
-        self.digest = mixed(self.digest, c.digest);
+    // With what came of a drill.
+    pub fn with_drill(mut self, asked: usize, differ: usize, digest: usize) -> Score {
+        self.asked = sum(self.asked, asked);
+        self.differ = sum(self.differ, differ);
+        self.digest = mixed(self.digest, digest);
         self
+    }
+
+    pub fn with_registers(self, c: Counts) -> Score {
+        self.with_drill(c.asked, c.differ, c.digest)
     }
 
     pub fn counted(self, a: Answer, b: Answer) -> Score {

@@ -1,5 +1,6 @@
 // What both registers answer to a report, and whether they hold the same.
 use cases::chance::draw;
+use choices::sending;
 use pair::answer;
 use pair::answer::Both;
 use pair::asking;
@@ -18,7 +19,7 @@ fn sorted(both: Both) -> bool {
         & ((answer::ONE <= r.what) & (r.what <= answer::SEVERAL))
 }
 
-// Asks where (x, y) belongs, and adds up the winding numbers there if it is on no border.
+// Asks where a report at (x, y) belongs, and adds up the winding numbers there if it is on no border.
 pub fn report(
     outline: &[i32],
     store: &[i32],
@@ -34,7 +35,8 @@ pub fn report(
     requires { ⌜ length (now sizes) ≡ manyRows ⌝ }
 {
     let number = draw(seed, 4_294_967_296) as u32;
-    let both = asking::report(outline, store, runs, rows, sizes, number, x, y);
+    let position = sending::position(x, y, seed);
+    let both = asking::report(outline, store, runs, rows, sizes, number, position);
     let c = counts.with(Call::Report, both);
     if sorted(both) {
         return c.with_sum(sums::compared(rows, sizes, x, y));

@@ -1,6 +1,8 @@
 // One call to both registers: the packed one in `outline`, `store` and `runs`, the other in `rows` and `sizes`.
 use crate::answer;
 use crate::answer::Both;
+use positions::Position;
+use rows::Sent;
 ghost use mathlib.Core.Path.{_≡_};
 ghost use lib.ListN.{length};
 ghost use Rattle.rows.specs.Shape.{allRows, manyRows};
@@ -22,6 +24,15 @@ pub fn found(
     }
 }
 
+// The position as the rows take it.
+fn sent(position: Position) -> Sent {
+    match position {
+        Position::Grid(x, y) => Sent::Point(x, y),
+        Position::Fix(fix) => Sent::Metres(fix.easting, fix.northing),
+        Position::Missing => Sent::Nothing,
+    }
+}
+
 pub fn report(
     outline: &[i32],
     store: &[i32],
@@ -29,15 +40,17 @@ pub fn report(
     rows: &[i32],
     sizes: &[usize],
     number: u32,
-    x: i32,
-    y: i32,
+    position: Position,
 ) -> Both
     requires { ⌜ length (now rows) ≡ allRows ⌝ }
     requires { ⌜ length (now sizes) ≡ manyRows ⌝ }
 {
     Both {
-        packed: answer::assigned(register::assign(outline, store, runs, number, x, y)),
-        rows: answer::belongs(rows::report(rows, sizes, x, y), number as usize),
+        packed: answer::assigned(positions::assign_at(outline, store, runs, number, position)),
+        rows: answer::belongs(
+            rows::report_sent(rows, sizes, sent(position)),
+            number as usize,
+        ),
     }
 }
 

@@ -5,8 +5,8 @@ use crate::answer::Both;
 use crate::sums::Sum;
 use cases::chance::mixed;
 
-// One past the highest of document 01's numbers of refusals.
-pub const REFUSALS: usize = 15;
+// One past the highest number of a refusal.
+pub const REFUSALS: usize = 20;
 
 pub struct Counts {
     // How many calls were made, and which were accepted.
@@ -19,7 +19,7 @@ pub struct Counts {
     pub none: usize,
     pub several: usize,
     // By the refusal's number.
-    pub refused: [usize; 15],
+    pub refused: [usize; 20],
     // After how many steps the store was full.
     pub full: usize,
     // At how many points the winding numbers were added up.
@@ -51,7 +51,7 @@ impl Counts {
             one: 0,
             none: 0,
             several: 0,
-            refused: [0; 15],
+            refused: [0; 20],
             full: 0,
             summed: 0,
             differ: 0,

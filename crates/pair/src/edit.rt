@@ -2,6 +2,7 @@
 use crate::answer::Both;
 use crate::asking;
 use crate::counts::Call;
+use positions::Position;
 ghost use mathlib.Core.Path.{_≡_};
 ghost use lib.ListN.{length};
 ghost use Rattle.rows.specs.Shape.{allRows, manyRows};
@@ -22,8 +23,7 @@ pub enum Edit {
     },
     Report {
         number: u32,
-        x: i32,
-        y: i32,
+        position: Position,
     },
 }
 
@@ -40,8 +40,7 @@ pub fn call_of(edit: Edit) -> Call {
         } => Call::Merge,
         Edit::Report {
             number: _,
-            x: _,
-            y: _,
+            position: _,
         } => Call::Report,
     }
 }
@@ -72,8 +71,8 @@ pub fn perform(
             b,
             k,
         } => asking::merge(outline, store, runs, rows, sizes, kept, a, gone, b, k),
-        Edit::Report { number, x, y } => {
-            asking::report(outline, store, runs, rows, sizes, number, x, y)
+        Edit::Report { number, position } => {
+            asking::report(outline, store, runs, rows, sizes, number, position)
         }
     }
 }

@@ -1,9 +1,10 @@
 // Asks two independent ways where points lie against rings, `ring` by quarter turns and `second` by triangles, and prints
-// where they differ: first document 01's known points, a line each, then made rings, a line for each kind. Then registers, packed and
-// by rows: document 01's listing of edits, a line each, and made registers that are asked about and edited, a line for each drill.
-// The rings come from a fixed seed, so that every run prints the same. Proved safe and ending; what it prints is compared.
+// where they differ: first document 01's known points, a line each, then made rings, a line for each kind. Then metres as millimetres.
+// Then registers, packed and by rows: document 01's listing of edits, a line each, and made registers that are asked about and edited, a
+// line for each drill. The rings come from a fixed seed, so that every run prints the same. Proved safe and ending; what it prints is compared.
 mod damage;
 mod lives;
+mod metres;
 
 use cases::Kind;
 use lines::answer;
@@ -36,7 +37,9 @@ fn main() {
         &mut seed,
         all,
     );
+    all = metres::all(all);
     all = known_edits::known_split(known_edits::listing(all));
+    all = known_edits::positions(all);
     all = lives::all(&mut seed, all);
     all = damage::all(all);
     all.print_sum();

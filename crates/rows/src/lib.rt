@@ -9,7 +9,7 @@ mod splitting;
 pub use merging::merge;
 pub use merging::same;
 pub use reporting::located;
-pub use reporting::report;
+pub use reporting::report_sent;
 pub use row::around;
 pub use row::before;
 pub use row::number_at;
@@ -35,7 +35,7 @@ pub const ROWS_LENGTH: usize = 266_240;
 
 const FEWEST_VERTICES: usize = 3;
 
-// Document 01's numbers of the refusals.
+// The refusals' numbers.
 const NO_OUTLINE: u32 = 2;
 
 const OUTLINE_THERE: u32 = 3;
@@ -58,6 +58,10 @@ const NUMBERS_IN_USE: u32 = 11;
 
 const NO_ROOM: u32 = 12;
 
+const NOT_FINITE: u32 = 18;
+
+const MISSING: u32 = 19;
+
 // What a change answers: the district that was made or kept, or a refusal's number.
 pub enum Told {
     Done(usize),
@@ -72,6 +76,13 @@ pub enum Belongs {
     // The lowest number, and how many.
     Several(usize, usize),
     Refused(u32),
+}
+
+// A report's position as it was sent: a point in whole millimetres, two values in metres, or nothing.
+pub enum Sent {
+    Point(i32, i32),
+    Metres(f64, f64),
+    Nothing,
 }
 
 // Stores the outline and makes district 0 with the same ring; answers 0.

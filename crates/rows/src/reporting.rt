@@ -1,7 +1,9 @@
 // Reports: every row is located by `second`, from the highest number down, so that the lowest is seen last.
 use crate::Belongs;
 use crate::NUMBERS;
+use crate::Sent;
 use crate::row;
+use second::Length;
 use second::Where;
 ghost use mathlib.Core.Path.{_≡_};
 ghost use lib.ListN.{length};
@@ -83,15 +85,43 @@ fn survey(rows: &[i32], sizes: &[usize], x: i32, y: i32) -> Seen
 }
 
 // Where a report at (x, y) belongs.
-pub fn report(rows: &[i32], sizes: &[usize], x: i32, y: i32) -> Belongs
+fn at_point(rows: &[i32], sizes: &[usize], x: i32, y: i32) -> Belongs
+    requires { ⌜ length (now rows) ≡ allRows ⌝ }
+    requires { ⌜ length (now sizes) ≡ manyRows ⌝ }
+{
+    if row::off_grid(x, y) {
+        return Belongs::Refused(crate::BEYOND_GRID);
+    }
+    survey(rows, sizes, x, y).belongs()
+}
+
+// Both values are asked to be numbers before either is asked to be on the grid.
+fn at_metres(rows: &[i32], sizes: &[usize], x: Length, y: Length) -> Belongs
+    requires { ⌜ length (now rows) ≡ allRows ⌝ }
+    requires { ⌜ length (now sizes) ≡ manyRows ⌝ }
+{
+    if !(x.number & y.number) {
+        return Belongs::Refused(crate::NOT_FINITE);
+    }
+    if x.far | y.far {
+        return Belongs::Refused(crate::BEYOND_GRID);
+    }
+    at_point(rows, sizes, x.millimetres, y.millimetres)
+}
+
+// Where a report with this position belongs.
+pub fn report_sent(rows: &[i32], sizes: &[usize], sent: Sent) -> Belongs
     requires { ⌜ length (now rows) ≡ allRows ⌝ }
     requires { ⌜ length (now sizes) ≡ manyRows ⌝ }
 {
     if row::size(sizes, crate::OUTLINE) == 0 {
         return Belongs::Refused(crate::NO_OUTLINE);
     }
-    if row::off_grid(x, y) {
-        return Belongs::Refused(crate::BEYOND_GRID);
+    match sent {
+        Sent::Point(x, y) => at_point(rows, sizes, x, y),
+        Sent::Metres(x, y) => {
+            at_metres(rows, sizes, second::millimetres(x), second::millimetres(y))
+        }
+        Sent::Nothing => Belongs::Refused(crate::MISSING),
     }
-    survey(rows, sizes, x, y).belongs()
 }

@@ -1,10 +1,13 @@
 // Where a point lies against a closed ring, found a second way, to be compared with the first: the ring is covered by
-// triangles from a common origin to each edge, as Jiménez, Feito and Segura do. It knows nothing of the other crates.
-// Proved safe and ending for every list and point; its answers are compared and not proved. `locate` has no `requires`.
+// triangles from a common origin to each edge, as Jiménez, Feito and Segura do. And metres as whole millimetres. It knows nothing of the
+// other crates. Proved safe and ending for every list, point and value; its answers are compared and not proved. `locate` and `millimetres`
+// have no `requires`.
+mod metres;
 mod plane;
 
+pub use metres::Length;
+pub use metres::millimetres;
 use plane::Spot;
-
 // How far a number is from zero; here for whoever prints one.
 pub use plane::size;
 ghost use Prim.Native.Nat.{_+_, _≤_};

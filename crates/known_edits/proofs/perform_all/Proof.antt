@@ -8,11 +8,11 @@ use Rattle.known_edits.proofs.perform_all.Statement.{statement}
 use Rattle.known_edits.proofs.perform_all.Tie as tie
 
 abbrev Inv-loop : tie.InvT-loop
-Inv-loop outline₀ store₀ runs₀ rows₀ sizes₀ name over last ring path c₀ k₀ outline store runs rows sizes c k =
+Inv-loop outline₀ store₀ runs₀ rows₀ sizes₀ name list last ring path c₀ k₀ outline store runs rows sizes c k =
     (length outline ≡ length outline₀) × (length store ≡ length store₀) × (length runs ≡ length runs₀) × (length rows ≡ allRows) × (length sizes ≡ manyRows)
 
 abbrev μ-loop : tie.MeasureT-loop
-μ-loop outline₀ store₀ runs₀ rows₀ sizes₀ name over last ring path c₀ k₀ outline store runs rows sizes c k =
+μ-loop outline₀ store₀ runs₀ rows₀ sizes₀ name list last ring path c₀ k₀ outline store runs rows sizes c k =
     last - k
 
 new-requires : tie.Need-new-requires Inv-loop μ-loop
@@ -21,8 +21,8 @@ new-requires c κs = search needs
 loop-holds : tie.Need-loop-holds Inv-loop μ-loop
 loop-holds c = search needs
 
-edit-at-requires : tie.Need-edit-at-requires Inv-loop μ-loop
-edit-at-requires c κs = search needs
+call-requires : tie.Need-call-requires Inv-loop μ-loop
+call-requires c κs = search needs
 
 perform-requires : tie.Need-perform-requires Inv-loop μ-loop
 perform-requires c κs = search needs
@@ -65,7 +65,7 @@ perform-all-spec =
     μ-loop
     new-requires
     loop-holds
-    edit-at-requires
+    call-requires
     perform-requires
     counted-requires
     add-k

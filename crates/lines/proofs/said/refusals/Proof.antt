@@ -8,7 +8,7 @@ abbrev Inv-loop : tie.InvT-loop
 Inv-loop refused no₀ no' = 0 ≤ no'
 
 abbrev μ-loop : tie.MeasureT-loop
-μ-loop refused no₀ no' = 15 - no'
+μ-loop refused no₀ no' = 20 - no'
 
 loop-holds : tie.Need-loop-holds Inv-loop μ-loop
 loop-holds c = search needs
