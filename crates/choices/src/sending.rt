@@ -4,7 +4,7 @@ use cases::chance::draw;
 use fixes::Fix;
 use positions::Position;
 
-// Of so many positions all but FIXES are on the grid, the last is missing, and the one before it is not finite.
+// Of so many forms the first are points, the next fixes at the point, one a fix that is not finite, and the last none.
 const FORMS: usize = 16;
 
 const FIXES: usize = 8;

@@ -8,7 +8,7 @@ pub enum Kind {
     AnySize,
     // Up to 2^20 metres, with fractions.
     Town,
-    // Half way between two millimetres, and the doubles next to that.
+    // Half way between two millimetres, or as near to it as a double can be, and the doubles next to that.
     Halves,
     // Round the last millimetre that is on the grid and the first that is not.
     Limits,
@@ -31,8 +31,10 @@ const SMALLER: usize = 30;
 // More than it takes from the largest whole number to 0, and from 1 to infinity.
 const MOST_TIMES: usize = 1150;
 
-// 2^23: odd numbers below 2^24 are made of them.
+// Of so many the odd numbers are made, of sixteenths below 2^20 metres and of half millimetres up to the grid's limit.
 const SIXTEENTHS: usize = 8_388_608;
+
+const HALF_MILLIMETRES: usize = 1_000_000_000;
 
 // 3 / 2^54 and 1 / 2^53: this part of a double leads to the next one up, and to the next one down.
 const UP: f64 = 1.6653345369377348e-16;
@@ -92,10 +94,22 @@ fn of_town(seed: &mut usize) -> f64 {
     scaled(whole(seed), 0.5, times)
 }
 
-// An odd number of sixteenths of a metre, 62.5 millimetres each, or a double next to it.
+fn odd(many: usize, seed: &mut usize) -> f64
+    requires { ⌜ (0 < many) × (many < 4294967296) ⌝ }
+{
+    2.0 * part(many, seed) + 1.0
+}
+
+// Only an odd number of sixteenths of a metre is exactly half way.
+fn half_way(seed: &mut usize) -> f64 {
+    if draw(seed, 2) == 0 {
+        return odd(SIXTEENTHS, seed) / 16.0;
+    }
+    odd(HALF_MILLIMETRES, seed) / 2000.0
+}
+
 fn half(seed: &mut usize) -> f64 {
-    let x = (2.0 * part(SIXTEENTHS, seed) + 1.0) / 16.0;
-    beside(x, draw(seed, 2) == 0, draw(seed, 2))
+    beside(half_way(seed), draw(seed, 2) == 0, draw(seed, 2))
 }
 
 fn limit(seed: &mut usize) -> f64 {
