@@ -5,12 +5,13 @@ use mir.Syntax.{w32}
 use mir.Val.{SFits}
 use mir.Facts.{toZ-ofZ}
 use borrow.Author.Needs.{needs}
+use Rattle.districts.specs.Answers.{answerOf}
 use Rattle.districts.specs.Lists.{meaning}
 use Rattle.districts.specs.Register.{Register}
 use Rattle.districts.specs.WellFormed.{wellFormed}
 use Rattle.register.specs.Sorting.{assigned}
 use Rattle.positions.specs.declared.Position.{Position}
-use Rattle.positions.specs.Placing.{assignedAt}
+use Rattle.positions.specs.Placing.{assignedAt, refusedAs}
 use Rattle.positions.proofs.Answers.{grid-as-before, missing-is}
 use Rattle.positions.proofs.assign_at.Statement.{statement}
 use Rattle.positions.proofs.assign_at.Tie as tie
@@ -60,7 +61,8 @@ returns-2 c = c .assign-fix .ensures ∙ sym (with-position (c .before .before .
 returns-3 : tie.Need-returns-3
 returns-3 c =
     let s = c .before .before .before .before in
-    c .refused .ensures ∙ sym (missing-is (formed s) (lent s) (s .args .number)) ∙ sym (with-position s _ (c .before .enum-told .given .1))
+    let said : answerOf (c .refused .result) ≡ refusedAs (formed s) (lent s) 19 = c .refused .ensures in
+    said ∙ sym (missing-is (formed s) (lent s) (s .args .number)) ∙ sym (with-position s _ (c .before .enum-told .given .1))
 
 pub assign-at-spec : {M : Type 1} → statement M
 assign-at-spec =

@@ -2,9 +2,10 @@
 use mathlib.Core.Path.{_≡_, sym, ap, _∙_}
 use mathlib.Core.Bool.{Bool}
 use mir.Syntax.{w32}
-use mir.Val.{SFits}
+use mir.Val.{SFits, toZ, ofZ}
 use mir.Facts.{toZ-ofZ}
 use borrow.Author.Needs.{needs}
+use Rattle.districts.specs.Answers.{answerOf}
 use Rattle.districts.specs.Lists.{meaning}
 use Rattle.districts.specs.Register.{Register}
 use Rattle.districts.specs.WellFormed.{wellFormed}
@@ -12,7 +13,7 @@ use Rattle.register.specs.Sorting.{assigned}
 use Rattle.fixes.specs.declared.Placed.{Placed}
 use Rattle.fixes.specs.declared.Placed.the-variants.{OnGrid, BeyondGrid, NotFinite}
 use Rattle.positions.specs.declared.Position.the-variants.{Fix}
-use Rattle.positions.specs.Placing.{assignedAt}
+use Rattle.positions.specs.Placing.{assignedAt, refusedAs}
 use Rattle.positions.proofs.Answers.{answerBy, fix-is}
 use Rattle.positions.proofs.assign_fix.Statement.{statement}
 use Rattle.positions.proofs.assign_fix.Tie as tie
@@ -59,15 +60,22 @@ returns c =
     let y = c .before .before .x .given .0 .1 .0 in
     let across : SFits w32 x = search needs in
     let up : SFits w32 y = search needs in
-    c .assign .ensures
+    let said : answerOf (c .assign .result) ≡ assigned (formed s) (lent s) (s .args .number) (toZ w32 (ofZ w32 x)) (toZ w32 (ofZ w32 y)) = c .assign .ensures in
+    said
     ∙ (λ i. assigned (formed s) (lent s) (s .args .number) (toZ-ofZ across i) (toZ-ofZ up i))
     ∙ by-place converted (OnGrid x y) (c .before .before .x .given .1)
 
 returns-2 : tie.Need-returns-2
-returns-2 c = c .refused .ensures ∙ by-place (c .before .before .before) BeyondGrid (c .before .enum-told .given .1)
+returns-2 c =
+    let s = c .before .before .before .before .before in
+    let said : answerOf (c .refused .result) ≡ refusedAs (formed s) (lent s) 5 = c .refused .ensures in
+    said ∙ by-place (c .before .before .before) BeyondGrid (c .before .enum-told .given .1)
 
 returns-3 : tie.Need-returns-3
-returns-3 c = c .refused2 .ensures ∙ by-place (c .before .before .before) NotFinite (c .before .enum-told2 .given .1)
+returns-3 c =
+    let s = c .before .before .before .before .before in
+    let said : answerOf (c .refused2 .result) ≡ refusedAs (formed s) (lent s) 18 = c .refused2 .ensures in
+    said ∙ by-place (c .before .before .before) NotFinite (c .before .enum-told2 .given .1)
 
 pub assign-fix-spec : {M : Type 1} → statement M
 assign-fix-spec =
