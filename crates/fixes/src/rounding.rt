@@ -48,7 +48,7 @@ fn divided(n: u64, s: u64) -> u64
     whole + whole % 2
 }
 
-// The size of a value in millimetres, by its field and fraction; of a far one, any number beyond the grid.
+// The size of a value in millimetres, by its field and fraction; of a far one, the first number beyond the grid.
 fn size(field: u64, fraction: u64) -> u64
     requires { ⌜ fraction < 2 ^ 52 ⌝ }
     ensures { λ r. ⌜ r ≡ sizeOf field fraction ⌝ }

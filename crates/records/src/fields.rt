@@ -6,7 +6,7 @@ ghost use lib.Ieee.{binary64, ofBits};
 ghost use Rattle.register.specs.Calls.{written};
 ghost use Rattle.records.specs.Bytes.{field, signed as signedOf, signedFields};
 
-// How many numbers one, two and four bytes can be, and half of what four can be.
+// How many numbers one, two and four bytes can be; half of what four can be, and all of it, to be taken off a signed number.
 const ONE_BYTE: usize = 256;
 
 const TWO_BYTES: usize = 65_536;

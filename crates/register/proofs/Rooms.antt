@@ -1,7 +1,7 @@
 -- What a well-formed register tells the calls. Assumes nothing.
 use Prim.Native.Nat.{ℕ, _+_, _≤_, _<_}
 use native.Mathlib.Omega.{arith}
-use mathlib.Core.Path.{_≡_, refl, sym}
+use mathlib.Core.Path.{_≡_, refl, sym, ap, _∙_}
 use mathlib.Core.Bool.{Bool, true, false, not}
 use mathlib.Core.List.{List}
 use mathlib.Core.Logic.{_⊎_, inl, inr}
@@ -59,3 +59,11 @@ held-in-use xs place n = say (eqb n 0)
 pub outline-in-use : (outline store : List ℤ) (runs : List ℕ) → inUse (meaning outline store runs .outline) ≡ not (eqb (outlineSize runs) 0)
 unfolding meaning
 outline-in-use outline store runs = held-in-use outline 0 (outlineSize runs)
+
+-- refusal 2 is told by the outline's size
+pub no-outline : (outline store : List ℤ) (runs : List ℕ) → not (inUse (meaning outline store runs .outline)) ≡ eqb (outlineSize runs) 0
+no-outline outline store runs = ap not (outline-in-use outline store runs) ∙ twice (eqb (outlineSize runs) 0)
+  where
+    twice : (b : Bool) → not (not b) ≡ b
+    twice true = refl
+    twice false = refl

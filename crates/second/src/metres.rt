@@ -1,5 +1,7 @@
 // A value in metres as whole millimetres, found a second way: 1,000 is 125 doubled three times, and what is left of the power of two is
 // halved away bit by bit, the last bit that falls and whether one fell before it telling how to round.
+
+// How many fractions a double has, 2^52, and how many exponents; the last of them is that of infinities and NaNs.
 const FRACTIONS: u64 = 4_503_599_627_370_496;
 
 const EXPONENTS: u64 = 2048;

@@ -10,7 +10,7 @@ use Rattle.districts.specs.Register.{Register}
 use Rattle.districts.specs.WellFormed.{wellFormed}
 use Rattle.districts.proofs.Sound.{runs-length}
 use Rattle.register.specs.Sorting.{inUse, given}
-use Rattle.register.proofs.Rooms.{outline-in-use}
+use Rattle.register.proofs.Rooms.{no-outline}
 use Rattle.register.proofs.Verdicts.{stops-at, passes}
 use Rattle.positions.proofs.refused.Statement.{statement}
 use Rattle.positions.proofs.refused.Tie as tie
@@ -40,11 +40,7 @@ outline-size-requires c κs =
 outlined : (c : tie.After-outline-size) (b : Bool) → eqb (c .outline-size .result) 0 ≡ b → not (inUse (lent (c .before .before .before .before) .outline)) ≡ b
 outlined c b e =
     let a = c .before .before .before .before .args in
-    ap not (outline-in-use (a .outline .now) (a .store .now) (a .runs .now)) ∙ twice _ ∙ ap (λ n. eqb n 0) (sym (c .outline-size .ensures .0)) ∙ e
-  where
-    twice : (b : Bool) → not (not b) ≡ b
-    twice true = λ i. true
-    twice false = λ i. false
+    no-outline (a .outline .now) (a .store .now) (a .runs .now) ∙ ap (λ n. eqb n 0) (sym (c .outline-size .ensures .0)) ∙ e
 
 returns-2 : tie.Need-returns-2
 returns-2 c =
