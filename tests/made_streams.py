@@ -55,7 +55,7 @@ class Maker:
         self.apply(self.register.merge, a_number, a, b_number, b, k)
 
     def report(self, point):
-        """In one of the three forms that a point has; the millimetre nearest to the fix is the point or, seldom, the next one."""
+        """In one of the three forms that a point has; the millimetre nearest to the fix is the point or one next to it."""
         x, y = point
         fix = f"fix {self.metres(x)} {self.metres(y)}"
         self.report_at(self.rng.choice([words([point]), f"grid {words([point])}", fix]))
