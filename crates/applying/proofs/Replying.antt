@@ -6,11 +6,12 @@ use mathlib.Core.List.{List}
 use lib.IntN.{ℤ}
 use lib.ListN.{take}
 use Rattle.register.specs.declared.Founded.{Founded}
-use Rattle.register.specs.Verdict.{Verdict, accept, refuse, verdict}
+use Rattle.refusals.specs.Verdicts.{Verdict, accept, refuse, verdict}
 use Rattle.register.specs.Founding.{founded}
-use Rattle.register.specs.Calls.{Lists, formed, means, verdictOf, Leaves, FoundBy}
-use Rattle.judging.specs.declared.Changed.{Changed}
-use Rattle.judging.specs.Answers.{answerOf, answers}
+use Rattle.register.specs.Calls.{outcomeOf, FoundBy}
+use Rattle.districts.specs.Lent.{Lists, formed, means, Leaves}
+use Rattle.changes.specs.declared.Changed.{Changed}
+use Rattle.changes.specs.Answers.{answerOf, answers}
 use Rattle.judging.specs.Splitting.{splitTests, lowestUnused}
 use Rattle.judging.specs.Merging.{mergeTests}
 use Rattle.changes.specs.Calls.{SplitBy, MergeBy}

@@ -4,7 +4,7 @@ use native.Mathlib.Omega.{arith}
 use mathlib.Core.Path.{_≡_, sym, ap, subst, _∙_}
 use mathlib.Core.List.{List}
 use lib.IntN.{ℤ}
-use Rattle.register.specs.Calls.{Lists, formed, means}
+use Rattle.districts.specs.Lent.{Lists, formed, means}
 use Rattle.tally.specs.declared.Tally.{Tally}
 use Rattle.records.specs.declared.Decoded.{Decoded}
 use Rattle.records.specs.declared.Front.the-variants.{Outline, Split}

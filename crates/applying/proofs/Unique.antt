@@ -2,9 +2,8 @@
 use mathlib.Core.Path.{_≡_, refl, sym, ap, _∙_}
 use mathlib.Core.List.{List}
 use lib.IntN.{ℤ}
-use Rattle.districts.proofs.Unique.{classOf, class-back}
-use Rattle.register.specs.Calls.{Lists, formed, means}
-use Rattle.register.proofs.Unique.{both-left}
+use Rattle.districts.proofs.Unique.{classOf, class-back, both-left}
+use Rattle.districts.specs.Lent.{Lists, formed, means}
 use Rattle.tally.specs.declared.Tally.{Tally}
 use Rattle.history.specs.Histories.{Call, founding, splitting, merging, reporting, made}
 use Rattle.wording.specs.declared.Kind as CodeKind

@@ -5,8 +5,8 @@ use mathlib.Core.Bool.{Bool}
 use mathlib.Core.List.{List}
 use lib.IntN.{ℤ}
 use Rattle.districts.specs.Register.{Register}
-use Rattle.register.specs.Calls.{Lists, formed, means, written}
-use Rattle.positions.specs.declared.Position.{Position}
+use Rattle.districts.specs.Lent.{Lists, formed, means, written}
+use Rattle.register.specs.declared.Position.{Position}
 use Rattle.tally.specs.declared.Tally.{Tally}
 use Rattle.history.specs.Histories.{reporting}
 use Rattle.wording.specs.Lines as Lines

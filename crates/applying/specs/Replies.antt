@@ -4,13 +4,13 @@ use mathlib.Core.Bool.{Bool}
 use Rattle.districts.specs.Register.{Register}
 use Rattle.districts.specs.Answers as Answers
 use Rattle.districts.specs.Answers.{Answer, report}
-use Rattle.register.specs.Verdict.{Verdict, accept, refuse, verdict}
+use Rattle.refusals.specs.Verdicts.{Verdict, accept, refuse, verdict}
 use Rattle.register.specs.Founding.{foundTests}
-use Rattle.register.specs.Calls.{Lists, formed, means, Leaves}
-use Rattle.positions.specs.Placing.{placeTests, assignedAt}
+use Rattle.districts.specs.Lent.{Lists, formed, means, Leaves}
+use Rattle.register.specs.Placing.{placeTests, assignedAt}
 use Rattle.tally.specs.declared.Tally.{Tally}
 use Rattle.tally.specs.Tally.{tallied, answered}
-use Rattle.judging.specs.Answers as Changes
+use Rattle.changes.specs.Answers as Changes
 use Rattle.judging.specs.Splitting.{splitTests, lowestUnused}
 use Rattle.judging.specs.Merging.{mergeTests}
 use Rattle.history.specs.Histories.{Call, founding, splitting, merging, reporting, made}

@@ -5,8 +5,8 @@ use register::Founded;
 use wording::Said;
 ghost use mathlib.Core.Path.{_≡_};
 ghost use Rattle.districts.specs.Answers.{answerOf};
-ghost use Rattle.register.specs.Calls.{verdictOf};
-ghost use Rattle.judging.specs.Answers as Changes;
+ghost use Rattle.register.specs.Calls.{outcomeOf};
+ghost use Rattle.changes.specs.Answers as Changes;
 ghost use Rattle.wording.specs.Lines.{ok, saidOf};
 ghost use Rattle.applying.specs.Replies.{sayingOf, belonging, changing};
 

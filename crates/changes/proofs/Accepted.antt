@@ -10,14 +10,14 @@ use lib.ListN.{length}
 use borrow.Author.Tests.{eqb-true, eqb-false, not-true, not-false}
 use Rattle.ring.specs.declared.Point.{Point}
 use Rattle.ring.specs.Grid.{vertices, someBeyond}
-use Rattle.districts.specs.Register.{slot}
+use Rattle.districts.specs.Register.{slot, verticesOf}
 use Rattle.districts.specs.Lists.{outlineSize, firstPlace, size, part, meaning}
 use Rattle.districts.specs.WellFormed.{total, wellFormed}
-use Rattle.register.specs.Verdict.{accept, verdict}
-use Rattle.register.proofs.Rooms.{outline-in-use}
-use Rattle.register.proofs.Verdicts.{accepted}
+use Rattle.refusals.specs.Verdicts.{accept, verdict}
+use Rattle.districts.proofs.Lent.{outline-in-use}
+use Rattle.refusals.proofs.Verdicts.{accepted}
 use Rattle.ring.proofs.Search.{lowest-is}
-use Rattle.room.specs.Runs.{steps, verticesOf}
+use Rattle.room.specs.Runs.{steps}
 use Rattle.judging.specs.Splitting.{pieceOne, pieceTwo, splitTests}
 use Rattle.changes.specs.Afterwards.{split}
 use Rattle.judging.specs.Judging.{lowestFree}

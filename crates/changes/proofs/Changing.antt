@@ -10,17 +10,16 @@ use lib.IntN.{ℤ}
 use lib.ListN.{length, set, length-set, List·getD-eq-default}
 use lib.Seq.{getD-set-same}
 use borrow.Author.Tests.{leb-false, not-true, not-false}
-use Rattle.ring.specs.Grid.{pick, vertices}
+use Rattle.ring.specs.Grid.{vertices}
+use Rattle.ring.specs.Choices.{pick}
 use Rattle.ring.proofs.Pick.{neither-right}
 use Rattle.ring.proofs.Search.{lowest-is}
-use Rattle.districts.specs.Register.{Slot, unused, ring, Register, slot}
+use Rattle.districts.specs.Register.{Slot, unused, ring, Register, slot, inUse, verticesOf}
 use Rattle.districts.proofs.Meaning.{all-numbers}
-use Rattle.register.specs.Verdict.{Verdict, accept, verdict}
-use Rattle.register.specs.Sorting.{inUse}
-use Rattle.register.specs.Calls.{Lists, formed, means, Leaves}
-use Rattle.register.proofs.Verdicts.{accepted}
-use Rattle.room.specs.Runs.{verticesOf}
-use Rattle.judging.specs.declared.Changed.the-variants.{Done}
+use Rattle.refusals.specs.Verdicts.{Verdict, accept, verdict}
+use Rattle.districts.specs.Lent.{Lists, formed, means, Leaves}
+use Rattle.refusals.proofs.Verdicts.{accepted}
+use Rattle.changes.specs.declared.Changed.the-variants.{Done}
 use Rattle.judging.specs.Splitting.{pieceOne, pieceTwo, lowestUnused, splitTests}
 use Rattle.changes.specs.Afterwards.{split, merge}
 use Rattle.judging.specs.Merging.{merged, mergeTests}

@@ -10,14 +10,12 @@ use lib.ListN.{length, set}
 use borrow.Author.Tests.{eqb-false, not-true, not-false}
 use Rattle.ring.specs.declared.Point.{Point}
 use Rattle.ring.specs.Grid.{vertices, someBeyond}
-use Rattle.districts.specs.Register.{unused, ring, slot}
+use Rattle.districts.specs.Register.{unused, ring, slot, inUse, verticesOf}
 use Rattle.districts.specs.Lists.{outlineSize, firstPlace, size, part, meaning}
 use Rattle.districts.specs.WellFormed.{wellFormed}
-use Rattle.register.specs.Verdict.{accept, verdict}
-use Rattle.register.specs.Sorting.{inUse}
-use Rattle.register.proofs.Rooms.{outline-in-use}
-use Rattle.register.proofs.Verdicts.{accepted}
-use Rattle.room.specs.Runs.{verticesOf}
+use Rattle.refusals.specs.Verdicts.{accept, verdict}
+use Rattle.districts.proofs.Lent.{outline-in-use}
+use Rattle.refusals.proofs.Verdicts.{accepted}
 use Rattle.room.specs.Writing.{numbersOf}
 use Rattle.room.proofs.Forms.{Sound, sound}
 use Rattle.judging.specs.Merging.{merged, mergeTests}

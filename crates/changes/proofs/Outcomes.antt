@@ -4,12 +4,13 @@ use native.Mathlib.Omega.{arith}
 use mathlib.Core.Path.{_≡_, refl, sym, ap, subst, _∙_}
 use mathlib.Core.Bool.{true}
 use Rattle.districts.specs.Register.{Register}
-use Rattle.register.specs.Verdict.{Verdict, accept, refuse}
-use Rattle.register.specs.Calls.{Lists, formed, means, Leaves}
-use Rattle.judging.specs.declared.Refusal.{Refusal}
-use Rattle.judging.specs.declared.Changed.{Changed}
-use Rattle.judging.specs.declared.Changed.the-variants.{Done, Refused}
-use Rattle.judging.specs.Answers.{numberOf, done, refused, answerOf, answers}
+use Rattle.refusals.specs.Verdicts.{Verdict, accept, refuse}
+use Rattle.districts.specs.Lent.{Lists, formed, means, Leaves}
+use Rattle.refusals.specs.declared.Refusal.{Refusal}
+use Rattle.changes.specs.declared.Changed.{Changed}
+use Rattle.changes.specs.declared.Changed.the-variants.{Done, Refused}
+use Rattle.refusals.specs.Numbers.{numberOf}
+use Rattle.changes.specs.Answers.{done, refused, answerOf, answers}
 use Rattle.changes.specs.Calls.{ChangedBy}
 
 -- a number is answered only where nothing is refused, and it is the one

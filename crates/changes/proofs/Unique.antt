@@ -5,16 +5,17 @@ use mathlib.Core.Path.{_≡_, refl, sym, ap, _∙_}
 use mathlib.Core.List.{List}
 use lib.Dec.{eqb}
 use lib.IntN.{ℤ}
-use Rattle.ring.specs.Grid.{pick}
+use Rattle.ring.specs.Choices.{pick}
 use Rattle.districts.specs.Register.{Register}
-use Rattle.register.specs.Verdict.{Verdict, accept, refuse}
-use Rattle.register.specs.Calls.{Lists, formed, means, Leaves}
-use Rattle.register.proofs.Unique.{both-left}
-use Rattle.judging.specs.declared.Refusal.{Refusal}
-use Rattle.judging.specs.declared.Refusal.the-variants.{NotWellFormed, NoOutline, OddPath, BeyondGrid, BadNumber, SameDistrict, BadIndex, TooFew, NoMatch, NumbersInUse, NoRoom}
-use Rattle.judging.specs.declared.Changed.{Changed}
-use Rattle.judging.specs.declared.Changed.the-variants.{Done, Refused}
-use Rattle.judging.specs.Answers.{numberOf, Answer, done, refused, answerOf, answers}
+use Rattle.refusals.specs.Verdicts.{Verdict, accept, refuse}
+use Rattle.districts.specs.Lent.{Lists, formed, means, Leaves}
+use Rattle.districts.proofs.Unique.{both-left}
+use Rattle.refusals.specs.declared.Refusal.{Refusal}
+use Rattle.refusals.specs.declared.Refusal.the-variants.{NotWellFormed, NoOutline, NoRing, BeyondGrid, BadNumber, SameDistrict, BadIndex, TooFew, NoMatch, NumbersInUse, NoRoom}
+use Rattle.changes.specs.declared.Changed.{Changed}
+use Rattle.changes.specs.declared.Changed.the-variants.{Done, Refused}
+use Rattle.refusals.specs.Numbers.{numberOf}
+use Rattle.changes.specs.Answers.{Answer, done, refused, answerOf, answers}
 use Rattle.changes.specs.Calls.{ChangedBy, SplitBy, MergeBy}
 
 -- document 01's numbers read back

@@ -10,12 +10,12 @@ use Rattle.ring.specs.Segment.{same, onSegment}
 use Rattle.ring.specs.Locate.{lowest, locatedOn}
 use Rattle.ring.specs.Known.{square}
 use Rattle.districts.specs.Counts.{allTo, sumTo, listTo}
-use Rattle.districts.specs.Register.{Register, slot}
+use Rattle.districts.specs.Register.{Register, slot, verticesOf}
 use Rattle.districts.specs.Answers.{Belongs, border, one, none, several}
-use Rattle.register.specs.Verdict.{Verdict, accept, refuse, verdict}
+use Rattle.refusals.specs.Verdicts.{Verdict, accept, refuse, verdict}
 use Rattle.register.specs.Sorting.{onBorder, windsAbout, belongsTo}
 use Rattle.register.specs.Founding.{founded}
-use Rattle.room.specs.Runs.{run, verticesOf}
+use Rattle.room.specs.Runs.{run}
 use Rattle.judging.specs.Splitting.{lowestUnused, vertexCount, splitTests}
 use Rattle.changes.specs.Afterwards.{split, merge}
 use Rattle.judging.specs.Merging.{matches, mergeTests}

@@ -4,8 +4,7 @@ use Prim.Native.Nat.{ℕ}
 use mathlib.Core.List.{List}
 use lib.ListN.{set}
 use Rattle.ring.specs.declared.Point.{Point}
-use Rattle.districts.specs.Register.{unused, ring, Register, slot}
-use Rattle.room.specs.Runs.{verticesOf}
+use Rattle.districts.specs.Register.{unused, ring, Register, slot, verticesOf}
 use Rattle.judging.specs.Splitting.{pieceOne, pieceTwo, lowestUnused}
 use Rattle.judging.specs.Merging.{merged}
 

@@ -5,12 +5,12 @@ use mathlib.Core.List.{List}
 use lib.IntN.{ℤ}
 use Rattle.ring.specs.Grid.{vertices}
 use Rattle.districts.specs.Register.{Register}
-use Rattle.register.specs.Verdict.{Verdict, verdict}
-use Rattle.register.specs.Calls.{Lists, formed, means, Leaves}
-use Rattle.judging.specs.declared.Changed.{Changed}
+use Rattle.refusals.specs.Verdicts.{Verdict, verdict}
+use Rattle.districts.specs.Lent.{Lists, formed, means, Leaves}
+use Rattle.changes.specs.declared.Changed.{Changed}
 use Rattle.judging.specs.Splitting.{lowestUnused, splitTests}
 use Rattle.judging.specs.Merging.{mergeTests}
-use Rattle.judging.specs.Answers.{answerOf, answers}
+use Rattle.changes.specs.Answers.{answerOf, answers}
 use Rattle.changes.specs.Afterwards.{split, merge}
 
 -- what a change answers and leaves, judged as v, where district d is answered and register g is left: a refusal, and the lists as they

@@ -5,7 +5,7 @@ ghost use Prim.Native.Nat.{_+_, _<_, _≤_};
 ghost use lib.ListN.{length};
 ghost use Rattle.ring.specs.Grid.{vertices};
 ghost use Rattle.districts.specs.Lists.{firstPlace, size as sizeOf, part};
-ghost use Rattle.judging.specs.declared.Changed.the-variants.{Done};
+ghost use Rattle.changes.specs.declared.Changed.the-variants.{Done};
 ghost use Rattle.judging.specs.Merging.{merged};
 ghost use Rattle.changes.specs.Performing.{Pair, Joined};
 ghost use Rattle.changes.specs.Calls.{MergeBy};

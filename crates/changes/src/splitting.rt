@@ -6,7 +6,7 @@ ghost use lib.ListN.{length};
 ghost use Rattle.ring.specs.Grid.{vertices};
 ghost use Rattle.districts.specs.Lists.{firstPlace, size as sizeOf, part};
 ghost use Rattle.districts.specs.WellFormed.{total as totalOf};
-ghost use Rattle.judging.specs.declared.Changed.the-variants.{Done};
+ghost use Rattle.changes.specs.declared.Changed.the-variants.{Done};
 ghost use Rattle.judging.specs.Splitting.{pieceOne, pieceTwo};
 ghost use Rattle.changes.specs.Performing.{Divided};
 ghost use Rattle.changes.specs.Calls.{SplitBy};

@@ -1,4 +1,4 @@
--- A walk from place 0 that hops over a run that starts where it stands comes to the end exactly if the runs are packed. Assumes nothing.
+-- A walk from place 0 that hops over a run that starts where it stands comes to the end if the runs are packed, and only then. Assumes nothing.
 use Prim.Native.Nat.{ℕ, _+_, _≤_, _<_}
 use native.Mathlib.Decide.{decLt, ℕ-discrete}
 use native.Mathlib.Omega.{arith}
@@ -14,7 +14,7 @@ use Rattle.districts.specs.Lists.{firstPlace, size}
 use Rattle.districts.specs.Places.{Starts, Marked}
 use Rattle.districts.specs.WellFormed.{total, packed}
 use Rattle.districts.proofs.Tests.{refuted}
-use Rattle.districts.proofs.Sums.{sum-zero, same-terms, some-term, put, put-same, put-other, sum-put}
+use Rattle.districts.proofs.Sums.{sum-zero, sum-most, same-terms, some-term, put, put-same, put-other, sum-put}
 use Rattle.districts.proofs.Tiles.{Tiles, covered, covered-from, covered-to, covered-once, packed-tiles, tiles-packed}
 
 -- the places that the walk comes to; f says the first places and n the sizes
@@ -93,29 +93,30 @@ module _ (f n : ℕ → ℕ) where
   taken-by place origin = none-taken
   taken-by place (hop {place = before} {d = d} c s to) = one-more before d place (taken-by before c) s to
 
-  -- a walk that comes to the sum of all sizes has hopped over all
-  pub chain-tiles : (t : ℕ) → sumTo 64 n ≡ t → Chain f n t → Tiles f n t
-  chain-tiles t same c = record {
-    within = λ d h u. whole .ends d (used d h u);
-    disjoint = λ d e h k apart u v. whole .disjoint d e apart (used d h u) (used e k v);
-  }
-    where
-      whole : Taken f n t
-      whole = taken-by t c
+  module _ (t : ℕ) (same : sumTo 64 n ≡ t) (place : ℕ) (c : Chain f n place) where
+    abbrev whole : Taken f n place
+    whole = taken-by place c
 
-      most : (d : ℕ) → d < 64 → whole .taken d ≤ n d
-      most d h = elim (decLt 0 (whole .taken d)) [ yes u ↦ let e = whole .whole d u in omega arith | no u ↦ omega arith ]
+    most : (d : ℕ) → d < 64 → whole .taken d ≤ n d
+    most d h = elim (decLt 0 (whole .taken d)) [ yes u ↦ let e = whole .whole d u in omega arith | no u ↦ omega arith ]
 
-      used : (d : ℕ) → d < 64 → 0 < n d → 0 < whole .taken d
-      used d h u = let e = same-terms (whole .taken) n 64 most (whole .sum ∙ sym same) d h in omega arith
+    -- no run is hopped over twice, so the walk does not go beyond the sum of all sizes
+    pub chain-within : place ≤ t
+    chain-within = let sum = whole .sum in let more = sum-most (whole .taken) n 64 most in omega arith
+
+    -- a walk that has come to it has hopped over all
+    pub chain-tiles : t ≤ place → Tiles f n t
+    chain-tiles end = record {
+      within = λ d h u. let e = whole .ends d (used d h u) in let w = chain-within in omega arith;
+      disjoint = λ d e h k apart u v. whole .disjoint d e apart (used d h u) (used e k v);
+    }
+      where
+        used : (d : ℕ) → d < 64 → 0 < n d → 0 < whole .taken d
+        used d h u = let w = chain-within in let all : sumTo 64 (whole .taken) ≡ sumTo 64 n = (let s = whole .sum in omega arith) in let e = same-terms (whole .taken) n 64 most all d h in omega arith
 
   -- ---- where the runs are packed
 
   module _ (t : ℕ) (same : sumTo 64 n ≡ t) (tiles : Tiles f n t) where
-    pub chain-within : (place : ℕ) → Chain f n place → place ≤ t
-    chain-within place origin = omega arith
-    chain-within place (hop {d = d} c s to) = let end = tiles .within d (s .below) (s .used) in let at = s .there in omega arith
-
     -- the run that covers a place of the walk starts there: it would overlap the run before
     covered-starts : (place d : ℕ) → Chain f n place → d < 64 → f d ≤ place → place < f d + n d → f d ≡ place
     covered-starts place d origin h from to = omega arith
@@ -148,9 +149,6 @@ module _ (runs starts : List ℕ) (marked : Marked runs 64 starts) (place : ℕ)
           let found = marked .none-missed place (on .0) (omega arith) (on .1) in
           omega arith
 
-  -- the walk has come to the end, or beyond it
-  pub comes-to-end : total runs ≤ place → eqb place (total runs) ≡ packed runs
-  comes-to-end h = elim (ℕ-discrete place (total runs)) [
-    | yes same ↦ eq-eqb place (total runs) same ∙ sym (tiles-packed runs (chain-tiles (firstPlace runs) (size runs) (total runs) refl (subst (Chain (firstPlace runs) (size runs)) same c)))
-    | no other ↦ ne-eqb place (total runs) other ∙ sym (refuted (packed runs) (λ p. let w = chain-within (firstPlace runs) (size runs) (total runs) refl (packed-tiles runs p) place c in omega arith))
-  ]
+  -- the walk has come to the end
+  pub comes-to-end : total runs ≤ place → packed runs ≡ true
+  comes-to-end h = tiles-packed runs (chain-tiles (firstPlace runs) (size runs) (total runs) refl place c h)

@@ -7,3 +7,4 @@ pub mod Chains
 pub mod Marks
 pub mod Meaning
 pub mod Unique
+pub mod Lent

@@ -10,7 +10,8 @@ use lib.IntN.{ℤ}
 use lib.ListN.{length, getD, take, drop, List·getD-eq-default}
 use lib.Seq.{take-take}
 use borrow.Author.Tests.{eq-eqb, ne-eqb}
-use Rattle.ring.specs.Grid.{pick, beyond, someBeyond, vertices}
+use Rattle.ring.specs.Grid.{beyond, someBeyond, vertices}
+use Rattle.ring.specs.Choices.{pick}
 use Rattle.ring.proofs.Pick.{pick-true, pick-false, neither-left, neither-right}
 use Rattle.districts.specs.Counts.{listTo}
 use Rattle.districts.specs.Register.{unused, ring, slot}

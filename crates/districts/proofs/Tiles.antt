@@ -9,7 +9,7 @@ use mathlib.Core.List.{List}
 use mathlib.Core.Logic.{_⊎_, inl, inr}
 use lib.Dec.{eqb, leb, ltb}
 use borrow.Author.Tests.{eqb-true, leb-true, le-leb, lt-leb, lt-ltb, le-ltb, eq-eqb}
-use Rattle.ring.specs.Table.{count}
+use Rattle.ring.specs.Choices.{count}
 use Rattle.districts.specs.Counts.{allTo, sumTo}
 use Rattle.districts.specs.Lists.{firstPlace, size}
 use Rattle.districts.specs.Places.{covers}

@@ -1,33 +1,18 @@
--- Two answers of the code that say the same are the same. Assumes nothing.
+-- Two answers of the code that say the same are the same, and what two calls of the same verdict leave means the same. Assumes nothing.
 use Prim.Native.Nat.{ℕ}
+use native.Mathlib.Omega.{arith}
 use mathlib.Core.Path.{_≡_, refl, sym, ap, _∙_}
-use lib.Dec.{eqb}
-use Rattle.ring.specs.Grid.{pick}
-use Rattle.districts.specs.declared.Refusal.{Refusal}
-use Rattle.districts.specs.declared.Refusal.the-variants.{NotWellFormed, NoOutline, OutlineThere, NoRing, BeyondGrid, CountFull, NotFinite, Missing}
 use Rattle.districts.specs.declared.Class.{Class}
 use Rattle.districts.specs.declared.Class.the-variants.{Border, One, None, Several}
 use Rattle.districts.specs.declared.Assigned.{Assigned}
 use Rattle.districts.specs.declared.Assigned.the-variants.{Sorted, Refused}
-use Rattle.districts.specs.Answers.{Belongs, border, one, none, several, Answer, report, refused, numberOf, belongs, answerOf}
+use Rattle.districts.specs.Answers.{Belongs, border, one, none, several, Answer, report, refused, belongs, answerOf}
+use Rattle.districts.specs.Register.{Register}
+use Rattle.districts.specs.Lent.{Lists, formed, means, Leaves}
+use Rattle.refusals.specs.Verdicts.{Verdict, accept, refuse}
+use Rattle.refusals.proofs.Numbers.{refusalOf, refusal-back}
 
--- document 01's numbers and values read back
-abbrev refusalOf : ℕ → Refusal
-refusalOf n = pick (eqb n 1) NotWellFormed (pick (eqb n 2) NoOutline (pick (eqb n 3) OutlineThere (pick (eqb n 4) NoRing (pick (eqb n 5) BeyondGrid (pick (eqb n 14) CountFull (pick (eqb n 18) NotFinite Missing))))))
-
-refusal-back : (r : Refusal) → refusalOf (numberOf r) ≡ r
-refusal-back NotWellFormed = refl
-refusal-back NoOutline = refl
-refusal-back OutlineThere = refl
-refusal-back NoRing = refl
-refusal-back BeyondGrid = refl
-refusal-back CountFull = refl
-refusal-back NotFinite = refl
-refusal-back Missing = refl
-
-pub numberOf-injective : (r s : Refusal) → numberOf r ≡ numberOf s → r ≡ s
-numberOf-injective r s e = sym (refusal-back r) ∙ ap refusalOf e ∙ refusal-back s
-
+-- document 01's values read back
 abbrev pub classOf : Belongs → Class
 classOf (border d) = Border d
 classOf (one d) = One d
@@ -50,3 +35,9 @@ code-back (Refused r) = ap Refused (refusal-back r)
 
 pub answerOf-injective : (a b : Assigned) → answerOf a ≡ answerOf b → a ≡ b
 answerOf-injective a b e = sym (code-back a) ∙ ap codeOf e ∙ code-back b
+
+pub both-left : (v w : Verdict) → v ≡ w → (g : Register) (before after after′ : Lists) → Leaves v g before after → Leaves w g before after′ → (means after ≡ means after′) × (formed after ≡ formed after′)
+both-left accept accept e g before after after′ l m = (l .1 ∙ sym (m .1), l .0 ∙ sym (m .0))
+both-left accept (refuse n) e g before after after′ l m = let clash : _≡_ {A = ℕ} 0 1 = cc in absurd (let f : ⊥ = omega arith in f)
+both-left (refuse n) accept e g before after after′ l m = let clash : _≡_ {A = ℕ} 0 1 = cc in absurd (let f : ⊥ = omega arith in f)
+both-left (refuse n) (refuse k) e g before after after′ l m = (ap means (sym l ∙ m), ap formed (sym l ∙ m))

@@ -1,7 +1,6 @@
 -- The documents' answers to a report, with the numbers of the refusals, and how the code's enums say them. Assumes nothing.
 use Prim.Native.Nat.{ℕ}
-use Rattle.districts.specs.declared.Refusal.{Refusal}
-use Rattle.districts.specs.declared.Refusal.the-variants.{NotWellFormed, NoOutline, OutlineThere, NoRing, BeyondGrid, CountFull, NotFinite, Missing}
+use Rattle.refusals.specs.Numbers.{numberOf}
 use Rattle.districts.specs.declared.Class.{Class}
 use Rattle.districts.specs.declared.Class.the-variants.{Border, One, None, Several}
 use Rattle.districts.specs.declared.Assigned.{Assigned}
@@ -17,16 +16,6 @@ pub data Belongs : Type 0 where
 pub data Answer : Type 0 where
   report : ℕ → Belongs → Answer
   refused : ℕ → Answer
-
-abbrev pub numberOf : Refusal → ℕ
-numberOf NotWellFormed = 1
-numberOf NoOutline = 2
-numberOf OutlineThere = 3
-numberOf NoRing = 4
-numberOf BeyondGrid = 5
-numberOf CountFull = 14
-numberOf NotFinite = 18
-numberOf Missing = 19
 
 abbrev pub belongs : Class → Belongs
 belongs (Border d) = border d

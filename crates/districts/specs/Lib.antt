@@ -2,5 +2,6 @@ pub mod Counts
 pub mod Register
 pub mod Lists
 pub mod WellFormed
+pub mod Lent
 pub mod Places
 pub mod Answers

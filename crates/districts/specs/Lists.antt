@@ -1,12 +1,13 @@
 -- How three lists hold a register: the outline's coordinates, the store of all districts' vertices, and the runs: the outline's number
 -- of vertices (0: none), then for each of the 64 numbers its first place in the store, then for each its number of vertices (0: unused).
--- Nothing above this file and WellFormed.antt knows of the lists. Assumes nothing.
+-- Above `meaning` a register is a value: what a call answers and makes of it is said without the lists. Assumes nothing.
 use Prim.Native.Nat.{ℕ, _+_}
 use mathlib.Core.List.{List}
 use lib.Dec.{eqb}
 use lib.IntN.{ℤ}
 use lib.ListN.{getD, take, drop}
-use Rattle.ring.specs.Grid.{pick, vertices}
+use Rattle.ring.specs.Grid.{vertices}
+use Rattle.ring.specs.Choices.{pick}
 use Rattle.districts.specs.Counts.{listTo}
 use Rattle.districts.specs.Register.{Slot, unused, ring, Register, numbers}
 

@@ -1,6 +1,7 @@
 -- Document 01, "The register": what a register means, apart from how it is held. Assumes nothing.
 use Prim.Native.Nat.{ℕ}
-use mathlib.Core.List.{List}
+use mathlib.Core.Bool.{Bool, true, false}
+use mathlib.Core.List.{List, []}
 use lib.ListN.{getD}
 use Rattle.ring.specs.declared.Point.{Point}
 
@@ -21,3 +22,12 @@ numbers = 64
 -- what a number has; numbers above 63 are unused
 abbrev pub slot : Register → ℕ → Slot
 slot g d = getD (g .districts) d unused
+
+abbrev pub inUse : Slot → Bool
+inUse unused = false
+inUse (ring P) = true
+
+-- the vertices of a slot; an unused one has none
+abbrev pub verticesOf : Slot → List Point
+verticesOf unused = []
+verticesOf (ring P) = P

@@ -1,5 +1,5 @@
 // A register is held in three lent lists; this crate reads them and answers whether they are well-formed. No function changes a list.
-// It also has the answers that the register's calls give.
+// It also has the answers to reports.
 mod packing;
 mod runs;
 
@@ -9,13 +9,16 @@ pub use runs::first_place;
 pub use runs::outline_size;
 pub use runs::size;
 pub use runs::total;
+use refusals::Refusal;
+use refusals::Verdict;
 ghost use mathlib.Core.Path.{_≡_};
 ghost use mathlib.Core.Bool.{not, _&&_};
 ghost use Prim.Native.Nat.{_+_, _≤_};
 ghost use lib.ListN.{length};
 ghost use Rattle.districts.specs.WellFormed.{shaped as shapedLists, counted as countedRuns, total as totalOf, wellFormed};
-ghost use Rattle.districts.specs.Lists.{part};
-ghost use Rattle.districts.specs.Answers.{numberOf};
+ghost use Rattle.districts.specs.Lists.{part, meaning};
+ghost use Rattle.districts.specs.Lent.{beginning};
+ghost use Rattle.refusals.specs.Verdicts.{verdict, verdictOf};
 ghost use Rattle.ring.specs.Grid.{someBeyond};
 
 // How long the three lists of a register are.
@@ -26,37 +29,6 @@ pub const STORE_LENGTH: usize = 4096;
 pub const RUNS_LENGTH: usize = 129;
 
 pub const NUMBERS: usize = 64;
-
-// The most vertices that a ring, and that all districts together, may have.
-pub const MOST_VERTICES: usize = 2048;
-
-// Why a call is refused; specs/Answers.antt has the number for each, document 02's for the last two.
-pub enum Refusal {
-    NotWellFormed,
-    NoOutline,
-    OutlineThere,
-    NoRing,
-    BeyondGrid,
-    CountFull,
-    NotFinite,
-    Missing,
-}
-
-// A refusal's number in the documents.
-pub fn refusal_number(r: Refusal) -> usize
-    ensures { λ n. ⌜ n ≡ numberOf r ⌝ }
-{
-    match r {
-        Refusal::NotWellFormed => 1,
-        Refusal::NoOutline => 2,
-        Refusal::OutlineThere => 3,
-        Refusal::NoRing => 4,
-        Refusal::BeyondGrid => 5,
-        Refusal::CountFull => 14,
-        Refusal::NotFinite => 18,
-        Refusal::Missing => 19,
-    }
-}
 
 // Where a report belongs, by the numbers of the districts.
 pub enum Class {
@@ -96,6 +68,19 @@ pub fn well_formed(outline: &[i32], store: &[i32], runs: &[u32]) -> bool
     on_grid(outline, store, outline_size(runs), all)
 }
 
+// Refusal 1 where the lists are not well-formed, then 2 where there is no outline.
+pub fn usable(outline: &[i32], store: &[i32], runs: &[u32]) -> Verdict
+    ensures { λ r. ⌜ verdictOf r ≡ verdict (beginning (wellFormed (now (outline .entry)) (now (store .entry)) (now (runs .entry))) (meaning (now (outline .entry)) (now (store .entry)) (now (runs .entry)))) ⌝ }
+{
+    if !well_formed(outline, store, runs) {
+        return Verdict::Refused(Refusal::NotWellFormed);
+    }
+    if outline_size(runs) == 0 {
+        return Verdict::Refused(Refusal::NoOutline);
+    }
+    Verdict::Accepted
+}
+
 fn shaped(outline: &[i32], store: &[i32], runs: &[u32]) -> bool
     ensures { λ r. ⌜ r ≡ shapedLists (now (outline .entry)) (now (store .entry)) (now (runs .entry)) ⌝ }
 {
@@ -110,7 +95,7 @@ fn counted(runs: &[u32], all: usize) -> bool
 {
     let n = outline_size(runs);
     (runs::allowed(n) & runs::all_allowed(runs))
-        & ((all <= MOST_VERTICES) & ((1 <= n) | (all == 0)))
+        & ((all <= ring::MOST_VERTICES) & ((1 <= n) | (all == 0)))
 }
 
 // Whether the outline's n vertices and the districts' `all` are on the grid.

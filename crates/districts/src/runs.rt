@@ -11,8 +11,6 @@ pub const FIRST_PLACES: usize = 1;
 
 pub const SIZES: usize = 65;
 
-const FEWEST_VERTICES: usize = 3;
-
 fn wide(x: u32) -> usize
     ensures { λ r. ⌜ (r ≡ x) × (r < 2 ^ 32) ⌝ }
 {
@@ -60,7 +58,7 @@ pub fn total(runs: &[u32]) -> usize
 pub fn allowed(n: usize) -> bool
     ensures { λ r. ⌜ r ≡ sized n ⌝ }
 {
-    (n == 0) | ((FEWEST_VERTICES <= n) & (n <= crate::MOST_VERTICES))
+    (n == 0) | ((ring::FEWEST_VERTICES <= n) & (n <= ring::MOST_VERTICES))
 }
 
 pub fn all_allowed(runs: &[u32]) -> bool

@@ -10,7 +10,8 @@ use lib.IntN.{ℤ, pos, negsuc, negℤ, natAbs, _-ℤ_, _*ℤ_}
 use lib.Ieee.{Float, nan, inf, fin, up as numerator, down as denominator}
 use lib.Ieee.Fits.{down-pos}
 use Rattle.exact.proofs.Parts.{up, down, parts-neg, parts-sub, parts-mul, by-parts}
-use Rattle.ring.specs.Grid.{pick, beyond}
+use Rattle.ring.specs.Grid.{beyond}
+use Rattle.ring.specs.Choices.{pick}
 use Rattle.ring.proofs.Pick.{pick-true, pick-false, neither-left, neither-right}
 use Rattle.fixes.specs.declared.Placed.{Placed}
 use Rattle.fixes.specs.declared.Placed.the-variants.{OnGrid, BeyondGrid, NotFinite}

@@ -5,7 +5,8 @@ use mathlib.Core.Bool.{false, not, _&&_, _||_}
 use lib.Dec.{ltb, leb, eqb}
 use lib.IntN.{ℤ, pos}
 use lib.Ieee.{Float, nan, inf, fin, up, down}
-use Rattle.ring.specs.Grid.{pick, beyond}
+use Rattle.ring.specs.Grid.{beyond}
+use Rattle.ring.specs.Choices.{pick}
 use Rattle.fixes.specs.declared.Placed.{Placed}
 use Rattle.fixes.specs.declared.Placed.the-variants.{OnGrid, BeyondGrid, NotFinite}
 use Rattle.fixes.specs.Nearest.{withSign, finite, inMetre}

@@ -5,7 +5,7 @@ use mathlib.Core.Path.{_≡_}
 use mathlib.Core.List.{List, _++_}
 use lib.ListN.{length, take, drop, length-drop}
 use lib.Seq.{take-at, length-take-le, paste}
-use Rattle.register.specs.Calls.{Lists}
+use Rattle.districts.specs.Lent.{Lists}
 use Rattle.stream.specs.declared.Page.{Page}
 use Rattle.stream.specs.Desks.{Desk}
 use Rattle.stream.specs.Printing.{Printed}

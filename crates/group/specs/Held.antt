@@ -4,7 +4,7 @@ use mathlib.Core.Path.{_≡_}
 use mathlib.Core.Bool.{true}
 use mathlib.Core.List.{List}
 use lib.ListN.{length, take, drop}
-use Rattle.register.specs.Calls.{Lists, formed}
+use Rattle.districts.specs.Lent.{Lists, formed}
 use Rattle.group.specs.declared.Reading.{Reading}
 
 -- how long the input's buffer is

@@ -12,7 +12,7 @@ ghost use mathlib.Core.Bool.{true};
 ghost use Prim.Native.Nat.{_+_, _≤_};
 ghost use lib.ListN.{length, take, drop};
 ghost use lib.Seq.{paste};
-ghost use Rattle.register.specs.Calls.{formed};
+ghost use Rattle.districts.specs.Lent.{formed};
 ghost use Rattle.group.specs.Held.{piece, Kept, Refilled, Held, Turned};
 
 // How long the two buffers are: several times the longest record.

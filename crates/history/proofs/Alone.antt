@@ -14,20 +14,21 @@ use borrow.Author.Tests.{le-ltb}
 use Rattle.exact.specs.Sign.{eqZ}
 use Rattle.exact.proofs.Parts.{up, down}
 use Rattle.ring.specs.declared.Point.{Point}
-use Rattle.ring.specs.Grid.{pick, point, beyond}
-use Rattle.ring.specs.Table.{count}
+use Rattle.ring.specs.Grid.{point, beyond}
+use Rattle.ring.specs.Choices.{pick, count}
 use Rattle.ring.specs.Turns.{quarterTurns, winding, oddly}
 use Rattle.ring.specs.Locate.{off, lowest, atVertex, onEdge, choose, locatedOn}
 use Rattle.ring.proofs.Pick.{pick-false}
 use Rattle.ring.proofs.Quadrants.{turns-reverse}
 use Rattle.ring.proofs.Search.{lowest-none, lowest-is, lowest-over}
 use Rattle.districts.specs.Counts.{sumTo}
-use Rattle.districts.specs.Register.{Slot, unused, ring, Register, slot}
+use Rattle.districts.specs.Register.{Slot, unused, ring, Register, slot, inUse}
 use Rattle.districts.specs.Answers.{report, one}
 use Rattle.districts.proofs.Counting.{term-most}
-use Rattle.register.specs.Verdict.{accept, verdict}
-use Rattle.register.specs.Sorting.{rests, winds, ofSlot, onBorder, windsAbout, sorted, belongsTo, inUse, assignTests, assigned}
-use Rattle.register.proofs.Verdicts.{passes, passed-all, answer-given}
+use Rattle.refusals.specs.Verdicts.{accept, verdict}
+use Rattle.register.specs.Sorting.{rests, winds, ofSlot, onBorder, windsAbout, sorted, belongsTo, assignTests, assigned}
+use Rattle.register.proofs.Verdicts.{answer-given}
+use Rattle.refusals.proofs.Verdicts.{passes, passed-all}
 use Rattle.history.specs.Histories.{Call, empty, after}
 use Rattle.history.specs.Adding.{sumOver, slotWinding, Clear, ClearOf, SaidOne}
 use Rattle.judging.proofs.Told.{used-below}

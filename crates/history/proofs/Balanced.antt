@@ -9,17 +9,16 @@ use lib.Dec.{eqb}
 use lib.IntN.{ℤ, _+ℤ_, +ℤ-idr}
 use lib.ListN.{length, set, length-set}
 use borrow.Author.Tests.{ne-eqb, not-true}
-use Rattle.ring.specs.Grid.{pick, vertices}
+use Rattle.ring.specs.Grid.{vertices}
+use Rattle.ring.specs.Choices.{pick}
 use Rattle.ring.specs.Rings.{Weight, Antisymmetric, ringSum}
 use Rattle.ring.proofs.Pick.{pick-false}
 use Rattle.ring.proofs.Search.{lowest-is}
 use Rattle.districts.specs.Counts.{listTo}
-use Rattle.districts.specs.Register.{Slot, unused, ring, Register, slot}
+use Rattle.districts.specs.Register.{Slot, unused, ring, Register, slot, inUse, verticesOf}
 use Rattle.districts.proofs.Meaning.{list-long}
-use Rattle.register.specs.Verdict.{accept}
-use Rattle.register.specs.Sorting.{inUse}
+use Rattle.refusals.specs.Verdicts.{accept}
 use Rattle.register.specs.Founding.{founded}
-use Rattle.room.specs.Runs.{verticesOf}
 use Rattle.judging.specs.Splitting.{lowestUnused}
 use Rattle.changes.specs.Afterwards.{split, merge}
 use Rattle.judging.proofs.Sums.{split-sum, merge-sum}

@@ -3,7 +3,7 @@ use Prim.Native.Nat.{ℕ}
 use mathlib.Core.Path.{_≡_, refl, ap}
 use mathlib.Core.List.{List, [], _∷_}
 use Rattle.districts.specs.Register.{Register}
-use Rattle.register.specs.Verdict.{Verdict, accept, refuse}
+use Rattle.refusals.specs.Verdicts.{Verdict, accept, refuse}
 use Rattle.history.specs.Histories.{Call, judged, made, taken, step, after}
 
 module _ (I : Register → Type 0) (keeps : (g : Register) (c : Call) → I g → judged g c ≡ accept → I (made g c)) where

@@ -12,7 +12,7 @@ use Rattle.districts.specs.Register.{unused, numbers}
 use Rattle.districts.specs.Lists.{outlineSize, firstPlace, size, part, district, meaning}
 use Rattle.districts.specs.WellFormed.{sized, total}
 use Rattle.districts.proofs.Meaning.{list-at, list-past, list-long, list-same, unused-when}
-use Rattle.register.specs.Calls.{formed}
+use Rattle.districts.specs.Lent.{formed}
 use Rattle.room.proofs.Forms as Forms
 use Rattle.room.proofs.Forms.{Sound}
 use Rattle.history.specs.Histories.{empty}

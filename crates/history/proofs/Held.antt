@@ -12,13 +12,14 @@ use Rattle.ring.specs.Rings.{Weight, Antisymmetric}
 use Rattle.districts.specs.declared.Assigned.{Assigned}
 use Rattle.districts.specs.Register.{Register, slot}
 use Rattle.districts.specs.Answers.{answerOf}
-use Rattle.register.specs.Verdict.{Verdict, accept, refuse, verdict}
+use Rattle.refusals.specs.Verdicts.{Verdict, accept, refuse, verdict}
 use Rattle.register.specs.Sorting.{assigned}
-use Rattle.positions.specs.declared.Position.{Position}
-use Rattle.positions.specs.Placing.{isMissing, notFinite, eastOf, northOf, placeTests, assignedAt}
-use Rattle.positions.proofs.Answers.{as-on-grid}
+use Rattle.register.specs.declared.Position.{Position}
+use Rattle.register.specs.Placing.{isMissing, notFinite, eastOf, northOf, placeTests, assignedAt}
+use Rattle.register.proofs.ByPosition.{as-on-grid}
 use Rattle.register.specs.Founding.{foundTests, founded}
-use Rattle.register.specs.Calls.{Lists, formed, means, Leaves, verdictOf}
+use Rattle.register.specs.Calls.{outcomeOf}
+use Rattle.districts.specs.Lent.{Lists, formed, means, Leaves}
 use Rattle.judging.specs.Splitting.{splitTests}
 use Rattle.changes.specs.Afterwards.{split, merge}
 use Rattle.judging.specs.Merging.{mergeTests}

@@ -11,18 +11,18 @@ use lib.ListN.{length, set, length-set, length-append, length-reverse, List·get
 use lib.Seq.{getD-set-same, getD-set-other}
 use borrow.Author.Tests.{eqb-false, ltb-false, ne-eqb}
 use Rattle.ring.specs.declared.Point.{Point}
-use Rattle.ring.specs.Grid.{pick, vertices, noRing, someBeyond}
+use Rattle.ring.specs.Grid.{vertices, noRing, someBeyond}
+use Rattle.ring.specs.Choices.{pick}
 use Rattle.ring.proofs.Pick.{pick-false, neither-left, neither-right}
 use Rattle.districts.specs.Counts.{sumTo}
-use Rattle.districts.specs.Register.{Slot, unused, ring, Register, slot}
+use Rattle.districts.specs.Register.{Slot, unused, ring, Register, slot, inUse, verticesOf}
 use Rattle.districts.proofs.Counting.{term-most}
 use Rattle.districts.proofs.Meaning.{list-at, list-past, list-long}
 use Rattle.districts.proofs.Sums.{sum-same}
-use Rattle.register.specs.Verdict.{accept}
-use Rattle.register.proofs.Verdicts.{accepted}
-use Rattle.register.specs.Sorting.{inUse}
+use Rattle.refusals.specs.Verdicts.{accept}
+use Rattle.refusals.proofs.Verdicts.{accepted}
 use Rattle.register.specs.Founding.{founded}
-use Rattle.room.specs.Runs.{run, steps, verticesOf}
+use Rattle.room.specs.Runs.{run, steps}
 use Rattle.room.specs.Writing.{numbersOf}
 use Rattle.room.proofs.Parts.{sum-but-one}
 use Rattle.room.proofs.Written.{run-length, vertices-numbers, numbers-vertices}

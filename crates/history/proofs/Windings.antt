@@ -11,7 +11,7 @@ use Rattle.exact.proofs.Parts.{up, down, parts-mul, by-parts}
 use Rattle.exact.proofs.Sums.{*ℤ-+ℤ}
 use Rattle.exact.proofs.Poly.{var, num, add, mul, identity}
 use Rattle.ring.specs.declared.Point.{Point}
-use Rattle.ring.specs.Grid.{pick}
+use Rattle.ring.specs.Choices.{pick}
 use Rattle.ring.specs.Rings.{at, total, ringSum}
 use Rattle.ring.specs.Turns.{quarterTurns, winding}
 use Rattle.ring.specs.Segment.{same, onSegment}

@@ -6,10 +6,10 @@ use lib.IntN.{ℤ}
 use Rattle.ring.specs.Grid.{vertices}
 use Rattle.districts.specs.Counts.{listTo}
 use Rattle.districts.specs.Register.{unused, Register, numbers}
-use Rattle.register.specs.Verdict.{Verdict, accept, refuse, verdict}
+use Rattle.refusals.specs.Verdicts.{Verdict, accept, refuse, verdict}
 use Rattle.register.specs.Founding.{foundTests, founded}
-use Rattle.positions.specs.declared.Position.{Position}
-use Rattle.positions.specs.Placing.{placeTests}
+use Rattle.register.specs.declared.Position.{Position}
+use Rattle.register.specs.Placing.{placeTests}
 use Rattle.judging.specs.Splitting.{splitTests}
 use Rattle.changes.specs.Afterwards.{split, merge}
 use Rattle.judging.specs.Merging.{mergeTests}

@@ -4,8 +4,7 @@ use mathlib.Core.Path.{_≡_}
 use mathlib.Core.Bool.{false}
 use lib.ListN.{length}
 use Rattle.ring.specs.Grid.{someBeyond}
-use Rattle.districts.specs.Register.{Slot, unused, ring, Register, numbers, slot}
-use Rattle.register.specs.Sorting.{inUse}
+use Rattle.districts.specs.Register.{Slot, unused, ring, Register, numbers, slot, inUse}
 use Rattle.room.specs.Writing.{numbersOf}
 use Rattle.judging.specs.Splitting.{vertexCount}
 

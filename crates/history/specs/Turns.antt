@@ -7,10 +7,11 @@ use lib.IntN.{ℤ}
 use Rattle.districts.specs.declared.Assigned.{Assigned}
 use Rattle.districts.specs.Answers.{answerOf}
 use Rattle.register.specs.declared.Founded.{Founded}
-use Rattle.register.specs.Calls.{Lists, formed, means, FoundBy}
-use Rattle.positions.specs.declared.Position.{Position}
-use Rattle.positions.specs.Placing.{assignedAt}
-use Rattle.judging.specs.declared.Changed.{Changed}
+use Rattle.register.specs.Calls.{FoundBy}
+use Rattle.districts.specs.Lent.{Lists, formed, means}
+use Rattle.register.specs.declared.Position.{Position}
+use Rattle.register.specs.Placing.{assignedAt}
+use Rattle.changes.specs.declared.Changed.{Changed}
 use Rattle.changes.specs.Calls.{SplitBy, MergeBy}
 use Rattle.history.specs.Histories as Histories
 use Rattle.history.specs.Histories.{Call}

@@ -12,16 +12,14 @@ use Rattle.ring.specs.declared.Point.{Point}
 use Rattle.ring.specs.Grid.{vertices, someBeyond}
 use Rattle.ring.specs.Locate.{lowest}
 use Rattle.ring.proofs.Vertices.{length-vertices}
-use Rattle.districts.specs.Register.{slot}
+use Rattle.districts.specs.Register.{slot, inUse, verticesOf}
 use Rattle.districts.specs.Lists.{firstPlace, size, part, meaning}
 use Rattle.districts.specs.WellFormed.{total, wellFormed}
 use Rattle.districts.proofs.Sums.{sum-same}
 use Rattle.districts.proofs.Meaning.{unused-when, ring-when, slot-is, part-on-grid}
-use Rattle.register.specs.Verdict.{_if_}
-use Rattle.register.proofs.Runs.{part-length}
-use Rattle.register.specs.Sorting.{inUse}
-use Rattle.register.proofs.Rooms.{held-in-use}
-use Rattle.room.specs.Runs.{run, steps, verticesOf}
+use Rattle.refusals.specs.Verdicts.{_if_}
+use Rattle.districts.proofs.Lent.{part-length, held-in-use}
+use Rattle.room.specs.Runs.{run, steps}
 use Rattle.judging.specs.Splitting.{pieceOne, pieceTwo, lowestUnused, vertexCount, splitTests}
 use Rattle.judging.specs.Judging.{lowestFree, cutTests}
 use Rattle.room.proofs.Forms.{Sound, sound}

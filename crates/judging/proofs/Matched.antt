@@ -12,7 +12,7 @@ use lib.Signed.{leZ}
 use borrow.Author.Tests.{eq-eqb, ne-eqb, le-leb, lt-leb}
 use Rattle.exact.specs.Sign.{eqZ}
 use Rattle.ring.specs.declared.Point.{Point}
-use Rattle.ring.specs.Grid.{pick}
+use Rattle.ring.specs.Choices.{pick}
 use Rattle.ring.specs.Rings.{at}
 use Rattle.ring.specs.Segment.{same}
 use Rattle.districts.proofs.Tests.{stops, refuted}

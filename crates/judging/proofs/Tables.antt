@@ -3,9 +3,9 @@ use Prim.Native.Nat.{ℕ}
 use mathlib.Core.Path.{_≡_, sym, ap, _∙_}
 use mathlib.Core.Bool.{Bool, true, false}
 use mathlib.Core.List.{List, [], _∷_}
-use Rattle.register.specs.Verdict.{Test, _if_, verdict}
-use Rattle.register.proofs.Verdicts.{stops-at, passes, passed-all}
-use Rattle.judging.specs.Answers.{Answer, done, refused, answers}
+use Rattle.refusals.specs.Verdicts.{Test, _if_, verdict}
+use Rattle.refusals.proofs.Verdicts.{stops-at, passes, passed-all}
+use Rattle.changes.specs.Answers.{Answer, done, refused, answers}
 
 pub answer-stops : (n : ℕ) (b : Bool) (ts : List Test) (d : ℕ) → b ≡ true → refused n ≡ answers (verdict ((n if b) ∷ ts)) d
 answer-stops n b ts d e = sym (ap (λ v. answers v d) (stops-at n b ts e))

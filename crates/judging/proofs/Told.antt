@@ -9,13 +9,12 @@ use lib.Dec.{eqb, leb, ltb}
 use lib.IntN.{ℤ}
 use lib.ListN.{length, List·getD-eq-default}
 use borrow.Author.Tests.{eqb-false, leb-false, ltb-false, not-false}
-use Rattle.ring.specs.Grid.{pick, vertices, someBeyond}
+use Rattle.ring.specs.Grid.{vertices, someBeyond}
+use Rattle.ring.specs.Choices.{pick}
 use Rattle.ring.proofs.Pick.{neither-left, neither-right}
-use Rattle.districts.specs.Register.{Slot, unused, ring, Register, slot}
-use Rattle.register.specs.Verdict.{accept, verdict}
-use Rattle.register.specs.Sorting.{inUse}
-use Rattle.register.proofs.Verdicts.{accepted}
-use Rattle.room.specs.Runs.{verticesOf}
+use Rattle.districts.specs.Register.{Slot, unused, ring, Register, slot, inUse, verticesOf}
+use Rattle.refusals.specs.Verdicts.{accept, verdict}
+use Rattle.refusals.proofs.Verdicts.{accepted}
 use Rattle.judging.specs.Splitting.{pieceOne, pieceTwo, lowestUnused, vertexCount, splitTests}
 use Rattle.judging.specs.Merging.{matches, merged, mergeTests}
 

@@ -1,10 +1,10 @@
 -- How the code's answers say document 01's numbers. Assumes nothing.
 use Prim.Native.Nat.{ℕ}
-use Rattle.register.specs.Verdict.{Verdict, accept, refuse}
-use Rattle.judging.specs.declared.Refusal.{Refusal}
-use Rattle.judging.specs.declared.Refusal.the-variants.{NotWellFormed, NoOutline, OddPath, BeyondGrid, BadNumber, SameDistrict, BadIndex, TooFew, NoMatch, NumbersInUse, NoRoom}
-use Rattle.judging.specs.declared.Changed.{Changed}
-use Rattle.judging.specs.declared.Changed.the-variants.{Done, Refused}
+use Rattle.refusals.specs.Verdicts.{Verdict, accept, refuse}
+use Rattle.refusals.specs.declared.Refusal.{Refusal}
+use Rattle.refusals.specs.declared.Refusal.the-variants.{NotWellFormed, NoOutline, NoRing, BeyondGrid, BadNumber, SameDistrict, BadIndex, TooFew, NoMatch, NumbersInUse, NoRoom}
+use Rattle.changes.specs.declared.Changed.{Changed}
+use Rattle.changes.specs.declared.Changed.the-variants.{Done, Refused}
 
 -- document 01's numbers
 abbrev pub numberOf : Refusal → ℕ

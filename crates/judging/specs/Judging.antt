@@ -9,11 +9,10 @@ use lib.ListN.{length}
 use Rattle.ring.specs.declared.Point.{Point}
 use Rattle.ring.specs.Grid.{someBeyond}
 use Rattle.ring.specs.Locate.{lowest}
-use Rattle.districts.specs.Register.{Slot}
+use Rattle.districts.specs.Register.{Slot, inUse, verticesOf}
 use Rattle.districts.specs.Lists.{size}
-use Rattle.register.specs.Verdict.{Test, _if_}
-use Rattle.register.specs.Sorting.{inUse}
-use Rattle.room.specs.Runs.{steps, verticesOf}
+use Rattle.refusals.specs.Verdicts.{Test, _if_}
+use Rattle.room.specs.Runs.{steps}
 use Rattle.judging.specs.Merging.{matches, merged}
 
 -- the lowest number whose size is 0, 64 where there is none

@@ -8,10 +8,9 @@ use Rattle.ring.specs.declared.Point.{Point}
 use Rattle.ring.specs.Rings.{at}
 use Rattle.ring.specs.Segment.{same}
 use Rattle.districts.specs.Counts.{allTo}
-use Rattle.districts.specs.Register.{Register, slot}
-use Rattle.register.specs.Verdict.{Test, _if_}
-use Rattle.register.specs.Sorting.{inUse}
-use Rattle.room.specs.Runs.{run, verticesOf}
+use Rattle.districts.specs.Register.{Register, slot, inUse, verticesOf}
+use Rattle.refusals.specs.Verdicts.{Test, _if_}
+use Rattle.room.specs.Runs.{run}
 
 -- A(a+t) = B(b-t) for t = 0 .. k
 unfoldable pub matches : List Point → ℕ → List Point → ℕ → ℕ → Bool

@@ -9,10 +9,9 @@ use Rattle.ring.specs.declared.Point.{Point}
 use Rattle.ring.specs.Grid.{vertices, someBeyond}
 use Rattle.ring.specs.Locate.{lowest}
 use Rattle.districts.specs.Counts.{sumTo}
-use Rattle.districts.specs.Register.{Register, numbers, slot}
-use Rattle.register.specs.Verdict.{Test, _if_}
-use Rattle.register.specs.Sorting.{inUse}
-use Rattle.room.specs.Runs.{run, steps, verticesOf}
+use Rattle.districts.specs.Register.{Register, numbers, slot, inUse, verticesOf}
+use Rattle.refusals.specs.Verdicts.{Test, _if_}
+use Rattle.room.specs.Runs.{run, steps}
 
 -- Pi, P(i+1), .., Pj, then Wk, .., W1
 abbrev pub pieceOne : List Point → ℕ → ℕ → List Point → List Point

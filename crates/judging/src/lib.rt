@@ -7,7 +7,7 @@ pub use matching::merge;
 pub use splits::split;
 pub use splits::steps;
 ghost use mathlib.Core.Path.{_≡_};
-ghost use Rattle.judging.specs.Answers.{numberOf};
+ghost use Rattle.refusals.specs.Numbers.{numberOf};
 
 // Why a change is refused; specs/Answers.antt has document 01's number for each.
 pub enum Refusal {

@@ -10,11 +10,11 @@ ghost use Rattle.ring.specs.Rings.{at};
 ghost use Rattle.ring.specs.Segment.{same as samePoint};
 ghost use Rattle.districts.specs.Lists.{district, meaning};
 ghost use Rattle.districts.specs.WellFormed.{wellFormed};
-ghost use Rattle.register.specs.Verdict.{verdict};
-ghost use Rattle.register.specs.Calls.{Room};
+ghost use Rattle.refusals.specs.Verdicts.{verdict};
+ghost use Rattle.districts.specs.Lent.{GoodRuns};
 ghost use Rattle.judging.specs.Merging.{matches as matchAll, mergeTests};
 ghost use Rattle.judging.specs.Judging.{borderTests, pairTests};
-ghost use Rattle.judging.specs.Answers.{answerOf, answers};
+ghost use Rattle.changes.specs.Answers.{answerOf, answers};
 use ring::Point;
 
 fn same(p: Point, q: Point) -> bool

@@ -10,11 +10,11 @@ ghost use lib.Dec.{eqb};
 ghost use lib.ListN.{length};
 ghost use Rattle.districts.specs.Lists.{size as sizeOf, meaning};
 ghost use Rattle.districts.specs.WellFormed.{total as totalOf, wellFormed};
-ghost use Rattle.register.specs.Verdict.{verdict};
+ghost use Rattle.refusals.specs.Verdicts.{verdict};
 ghost use Rattle.room.specs.Runs.{steps as stepsOf};
 ghost use Rattle.judging.specs.Splitting.{lowestUnused, splitTests};
 ghost use Rattle.judging.specs.Judging.{lowestFree, roomTests, cutTests};
-ghost use Rattle.judging.specs.Answers.{answerOf, answers};
+ghost use Rattle.changes.specs.Answers.{answerOf, answers};
 
 // The fewest vertices of a ring.
 pub const LEAST_VERTICES: usize = 3;

@@ -5,9 +5,9 @@ use mathlib.Core.List.{List}
 use lib.IntN.{ℤ}
 use Rattle.districts.specs.Register.{Register}
 use Rattle.districts.specs.Answers.{Answer}
-use Rattle.register.specs.Verdict.{Verdict}
-use Rattle.register.specs.Calls.{Lists, formed, means}
-use Rattle.register.proofs.Unique.{both-left}
+use Rattle.refusals.specs.Verdicts.{Verdict}
+use Rattle.districts.specs.Lent.{Lists, formed, means}
+use Rattle.districts.proofs.Unique.{both-left}
 use Rattle.fixes.specs.declared.Placed.{Placed}
 use Rattle.launchramp.specs.Codes.{Code, Tells}
 use Rattle.launchramp.specs.Counts.{tallyOf}

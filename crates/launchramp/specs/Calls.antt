@@ -6,15 +6,15 @@ use lib.IntN.{ℤ}
 use Rattle.ring.specs.Grid.{vertices}
 use Rattle.districts.specs.Register.{Register}
 use Rattle.districts.specs.Answers.{Answer}
-use Rattle.register.specs.Verdict.{Verdict, verdict}
+use Rattle.refusals.specs.Verdicts.{Verdict, verdict}
 use Rattle.register.specs.Founding.{foundTests, founded}
-use Rattle.register.specs.Calls.{Lists, formed, means, Leaves}
+use Rattle.districts.specs.Lent.{Lists, formed, means, Leaves}
 use Rattle.fixes.specs.declared.Placed.{Placed}
 use Rattle.fixes.specs.declared.Placed.the-variants.{OnGrid, BeyondGrid, NotFinite}
 use Rattle.tally.specs.Tally.{tallied, answered}
 use Rattle.judging.specs.Splitting.{splitTests, lowestUnused}
 use Rattle.judging.specs.Merging.{mergeTests}
-use Rattle.judging.specs.Answers.{answers}
+use Rattle.changes.specs.Answers.{answers}
 use Rattle.changes.specs.Afterwards.{split, merge}
 use Rattle.launchramp.specs.Codes.{Code, verdictCode, changeCode, answerCode, placedCode, Tells}
 use Rattle.launchramp.specs.Counts.{tallyOf}

@@ -6,10 +6,10 @@ use lib.IntN.{ℤ, pos, negsuc}
 use Rattle.ring.specs.Locate.{Place, vertex, edge, off, refused}
 use Rattle.districts.specs.Answers as Answers
 use Rattle.districts.specs.Answers.{Belongs, border, one, none, several, Answer, report}
-use Rattle.register.specs.Verdict.{Verdict, accept, refuse}
+use Rattle.refusals.specs.Verdicts.{Verdict, accept, refuse}
 use Rattle.fixes.specs.declared.Placed.{Placed}
 use Rattle.fixes.specs.declared.Placed.the-variants.{OnGrid, BeyondGrid, NotFinite}
-use Rattle.judging.specs.Answers as Changes
+use Rattle.changes.specs.Answers as Changes
 
 pub record Code : Type 0 where
   pub kind : ℕ

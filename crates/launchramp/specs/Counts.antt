@@ -4,7 +4,7 @@ use mathlib.Core.Path.{_≡_}
 use mathlib.Core.List.{List}
 use lib.Dec.{leb}
 use lib.ListN.{getD, take}
-use Rattle.ring.specs.Grid.{pick}
+use Rattle.ring.specs.Choices.{pick}
 use Rattle.districts.specs.Register.{numbers}
 use Rattle.districts.specs.Answers.{Belongs, border, one, none, several, Answer}
 use Rattle.tally.specs.declared.Tally.{Tally}

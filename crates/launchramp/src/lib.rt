@@ -11,7 +11,7 @@ ghost use Rattle.districts.specs.WellFormed.{wellFormed};
 ghost use Rattle.districts.specs.Lists.{meaning};
 ghost use Rattle.register.specs.Sorting.{assigned};
 ghost use Rattle.fixes.specs.Millimetres.{placed};
-ghost use Rattle.positions.specs.Placing.{assignedAt};
+ghost use Rattle.register.specs.Placing.{assignedAt};
 ghost use Rattle.launchramp.specs.Codes.{placeCode, answerCode, Tells};
 ghost use Rattle.launchramp.specs.Calls.{FoundTells, SplitTells, MergeTells, CountTells, PlaceTells};
 

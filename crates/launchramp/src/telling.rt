@@ -8,10 +8,11 @@ use register::Founded;
 use ring::Located;
 use ring::Winding;
 ghost use mathlib.Core.Path.{_≡_};
-ghost use Rattle.ring.specs.Locate.{placeOf, numberOf as ringNumberOf};
-ghost use Rattle.districts.specs.Answers.{numberOf, belongs, answerOf};
-ghost use Rattle.register.specs.Calls.{verdictOf};
-ghost use Rattle.judging.specs.Answers as Changes;
+ghost use Rattle.ring.specs.Locate.{placeOf};
+ghost use Rattle.refusals.specs.Numbers.{numberOf as ringNumberOf, numberOf};
+ghost use Rattle.districts.specs.Answers.{belongs, answerOf};
+ghost use Rattle.register.specs.Calls.{outcomeOf};
+ghost use Rattle.changes.specs.Answers as Changes;
 ghost use Rattle.launchramp.specs.Codes.{code, refusedCode, offCode, placeCode, verdictCode, changeCode, classCode, answerCode, Tells};
 ghost use Rattle.launchramp.specs.Calls.{PlaceTells};
 

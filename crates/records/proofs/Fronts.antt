@@ -10,10 +10,10 @@ use lib.ListN.{length, take, drop}
 use lib.Seq.{take-at}
 use lib.Ieee.{Float}
 use borrow.Author.Tests.{lt-ltb, le-ltb, ne-eqb}
-use Rattle.ring.specs.Grid.{pick}
+use Rattle.ring.specs.Choices.{pick}
 use Rattle.ring.proofs.Pick.{pick-true, pick-false}
-use Rattle.register.specs.Calls.{written}
-use Rattle.positions.specs.declared.Position.the-variants.{Grid, Fix, Missing}
+use Rattle.districts.specs.Lent.{written}
+use Rattle.register.specs.declared.Position.the-variants.{Grid, Fix, Missing}
 use Rattle.history.specs.Histories.{Call, founding, splitting, merging, reporting}
 use Rattle.records.specs.declared.Decoded.{Decoded}
 use Rattle.records.specs.declared.Front.the-variants.{Outline, Split, Merge, More, Broken}

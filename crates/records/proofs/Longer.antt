@@ -9,9 +9,9 @@ use lib.ListN.{length, take, drop, length-drop, length-append}
 use lib.Seq.{take-append-le, drop-append-le}
 use lib.Ieee.{binary64, ofBits}
 use borrow.Author.Tests.{le-ltb, ltb-false}
-use Rattle.ring.specs.Grid.{pick}
+use Rattle.ring.specs.Choices.{pick}
 use Rattle.ring.proofs.Pick.{pick-false}
-use Rattle.positions.specs.declared.Position.the-variants.{Grid, Fix, Missing}
+use Rattle.register.specs.declared.Position.the-variants.{Grid, Fix, Missing}
 use Rattle.history.specs.Histories.{Call, founding, splitting, merging, reporting}
 use Rattle.records.specs.Bytes.{littleEndian, field, signed, signedFields}
 use Rattle.records.specs.Layout.{Front, whole, more, broken, firstMark, secondMark, from, upTo, outlineFront, splitFront, mergeFront, gridFront, fixFront, positionFront, byKind, front}

@@ -14,7 +14,7 @@ use mir.Syntax.{w32, w64}
 use mir.Val.{toZ}
 use mir.Facts.{toZ-pos}
 use Rattle.ring.proofs.Pick.{pick-true, pick-false}
-use Rattle.register.specs.Calls.{written}
+use Rattle.districts.specs.Lent.{written}
 use Rattle.records.specs.Bytes.{littleEndian, field, signed, signedFields}
 
 -- ---- unsigned

@@ -11,11 +11,11 @@ use lib.Seq.{drop-drop}
 use lib.Ieee.{binary64, ofBits, toBits}
 use lib.Ieee.Bits.{ofBits-toBits, toBits-lt}
 use borrow.Author.Tests.{lt-ltb, le-ltb}
-use Rattle.ring.specs.Grid.{pick}
+use Rattle.ring.specs.Choices.{pick}
 use Rattle.ring.proofs.Pick.{pick-true, pick-false}
 use Rattle.fixes.specs.declared.Fix as Fixes
-use Rattle.positions.specs.declared.Position.{Position}
-use Rattle.positions.specs.declared.Position.the-variants.{Grid, Fix, Missing}
+use Rattle.register.specs.declared.Position.{Position}
+use Rattle.register.specs.declared.Position.the-variants.{Grid, Fix, Missing}
 use Rattle.history.specs.Histories.{Call, founding, splitting, merging, reporting}
 use Rattle.records.specs.Bytes.{littleEndian, field, signed, signedFields}
 use Rattle.records.specs.Layout.{whole, broken, upTo, gridFront, fixFront, front}

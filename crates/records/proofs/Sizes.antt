@@ -7,7 +7,7 @@ use mathlib.Core.List.{List}
 use lib.Dec.{ltb, eqb}
 use lib.ListN.{length}
 use borrow.Author.Tests.{ltb-false}
-use Rattle.ring.specs.Grid.{pick}
+use Rattle.ring.specs.Choices.{pick}
 use Rattle.history.specs.Histories.{Call}
 use Rattle.records.specs.Bytes.{field}
 use Rattle.records.specs.Layout.{Front, whole, more, broken, firstMark, secondMark, from, upTo, outlineFront, splitFront, positionFront, byKind, front}

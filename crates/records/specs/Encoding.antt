@@ -6,8 +6,8 @@ use lib.IntN.{ℤ, pos, negsuc}
 use lib.ListN.{length}
 use lib.Dec.{T}
 use lib.Ieee.{binary64, toBits, fits}
-use Rattle.positions.specs.declared.Position.{Position}
-use Rattle.positions.specs.declared.Position.the-variants.{Grid, Fix, Missing}
+use Rattle.register.specs.declared.Position.{Position}
+use Rattle.register.specs.declared.Position.the-variants.{Grid, Fix, Missing}
 use Rattle.history.specs.Histories.{Call, founding, splitting, merging, reporting}
 use Rattle.records.specs.Layout.{firstMark, secondMark, mostAnnounced}
 

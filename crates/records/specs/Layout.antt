@@ -5,8 +5,8 @@ use mathlib.Core.List.{List}
 use lib.Dec.{eqb, ltb}
 use lib.ListN.{length}
 use lib.Ieee.{Float, binary64, ofBits}
-use Rattle.ring.specs.Grid.{pick}
-use Rattle.positions.specs.declared.Position.the-variants.{Grid, Fix, Missing}
+use Rattle.ring.specs.Choices.{pick}
+use Rattle.register.specs.declared.Position.the-variants.{Grid, Fix, Missing}
 use Rattle.history.specs.Histories.{Call, founding, splitting, merging, reporting}
 use Rattle.records.specs.Bytes.{field, signed, signedFields}
 

@@ -3,7 +3,7 @@ ghost use mathlib.Core.Path.{_≡_};
 ghost use Prim.Native.Nat.{_+_, _*_, _^_, _<_, _≤_};
 ghost use lib.ListN.{length};
 ghost use lib.Ieee.{binary64, ofBits};
-ghost use Rattle.register.specs.Calls.{written};
+ghost use Rattle.districts.specs.Lent.{written};
 ghost use Rattle.records.specs.Bytes.{field, signed as signedOf, signedFields};
 
 // How many numbers one, two and four bytes can be; half of what four can be, and all of it, to be taken off a signed number.

@@ -11,7 +11,8 @@ use lib.IntN.{ℤ}
 use lib.ListN.{length, getD, drop, set, length-set, length-append, length-drop}
 use lib.Seq.{take-at, getD-set-same, getD-set-other}
 use borrow.Author.Tests.{eq-eqb, ne-eqb, le-leb, eqb-false, ltb-false}
-use Rattle.ring.specs.Grid.{pick, vertices, noRing, someBeyond}
+use Rattle.ring.specs.Grid.{vertices, noRing, someBeyond}
+use Rattle.ring.specs.Choices.{pick}
 use Rattle.ring.proofs.Pick.{pick-false, neither-left, neither-right}
 use Rattle.districts.specs.Counts.{allTo, sumTo}
 use Rattle.districts.specs.Register.{unused, ring}
@@ -21,7 +22,8 @@ use Rattle.districts.proofs.Counting.{all-pass, term-most}
 use Rattle.districts.proofs.Sound.{outline-length, store-length, runs-length, right-counts, none-without}
 use Rattle.districts.proofs.Meaning.{unused-when, ring-when, list-same}
 use Rattle.register.specs.Founding.{founded}
-use Rattle.register.specs.Calls.{written, placed}
+use Rattle.register.specs.Calls.{placed}
+use Rattle.districts.specs.Lent.{written}
 
 -- a list that starts with xs has xs for its first part
 pub written-part : (xs before : List ℤ) (n : ℕ) → length xs ≡ n + n → part (written xs before) 0 n ≡ xs

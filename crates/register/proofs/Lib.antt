@@ -1,7 +1,7 @@
-pub mod Runs
 pub mod Sorts
-pub mod Rooms
-pub mod Verdicts
+pub mod Given
 pub mod Founds
+pub mod ByPosition
 pub mod Unique
 pub mod Vectors
+pub mod Positions

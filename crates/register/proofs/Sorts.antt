@@ -9,8 +9,7 @@ use mathlib.Core.Path.{_≡_, refl, sym, ap, subst, _∙_}
 use mathlib.Core.Bool.{Bool, true, false, _&&_}
 use lib.Dec.{leb}
 use borrow.Author.Tests.{lt-ltb}
-use Rattle.ring.specs.Grid.{pick}
-use Rattle.ring.specs.Table.{count}
+use Rattle.ring.specs.Choices.{pick, count}
 use Rattle.ring.specs.Locate.{lowest}
 use Rattle.ring.proofs.Pick.{pick-true}
 use Rattle.ring.proofs.Search.{lowest-none, lowest-first, Noted, noted-none, noted-more, noted-all}

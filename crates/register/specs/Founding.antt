@@ -5,11 +5,11 @@ use mathlib.Core.List.{List, [], _∷_}
 use lib.Dec.{eqb}
 use lib.IntN.{ℤ}
 use lib.ListN.{length}
-use Rattle.ring.specs.Grid.{pick, noRing, someBeyond, vertices}
+use Rattle.ring.specs.Grid.{noRing, someBeyond, vertices}
+use Rattle.ring.specs.Choices.{pick}
 use Rattle.districts.specs.Counts.{listTo}
-use Rattle.districts.specs.Register.{unused, ring, Register, numbers}
-use Rattle.register.specs.Verdict.{Test, _if_}
-use Rattle.register.specs.Sorting.{inUse}
+use Rattle.districts.specs.Register.{unused, ring, Register, numbers, inUse}
+use Rattle.refusals.specs.Verdicts.{Test, _if_}
 
 -- refusals 1, 3, 4, 5 in this order
 abbrev pub foundTests : Bool → Register → List ℤ → List Test

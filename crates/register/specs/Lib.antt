@@ -1,4 +1,4 @@
-pub mod Verdict
 pub mod Sorting
+pub mod Placing
 pub mod Founding
 pub mod Calls

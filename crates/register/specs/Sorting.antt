@@ -1,19 +1,20 @@
 -- Document 01, "Assigning a report": where a point belongs in a register. Assumes nothing.
 use Prim.Native.Nat.{ℕ}
 use mathlib.Core.Bool.{Bool, true, false, not, _||_}
-use mathlib.Core.List.{List, [], _∷_}
+use mathlib.Core.List.{List, [], _∷_, _++_}
 use lib.Dec.{ltb, eqb}
 use lib.IntN.{ℤ, pos}
 use Rattle.exact.specs.Sign.{eqZ}
 use Rattle.ring.specs.declared.Point.{Point}
-use Rattle.ring.specs.Grid.{pick, point, beyond}
-use Rattle.ring.specs.Table.{count}
+use Rattle.ring.specs.Grid.{point, beyond}
+use Rattle.ring.specs.Choices.{pick, count}
 use Rattle.ring.specs.Locate.{Place, vertex, edge, off, refused, lowest, locatedOn}
 use Rattle.districts.specs.Counts.{sumTo}
 use Rattle.districts.specs.Register.{Slot, unused, ring, Register, numbers, slot}
+use Rattle.districts.specs.Lent.{beginning}
 use Rattle.districts.specs.Answers as Answers
 use Rattle.districts.specs.Answers.{Belongs, border, one, none, several, Answer, report}
-use Rattle.register.specs.Verdict.{Test, _if_, Verdict, accept, refuse, verdict}
+use Rattle.refusals.specs.Verdicts.{Test, _if_, Verdict, accept, refuse, verdict}
 
 -- on a ring: at a vertex or on an edge
 abbrev pub rests : Place → Bool
@@ -52,14 +53,13 @@ sortedBy on about = sorted (lowest on numbers 0) (sumTo numbers (λ d. count (ab
 unfoldable pub belongsTo : Register → Point → Belongs
 belongsTo g R = sortedBy (onBorder g R) (windsAbout g R)
 
--- whether there is an outline
-abbrev pub inUse : Slot → Bool
-inUse unused = false
-inUse (ring P) = true
+-- refusal 5
+abbrev pub pointTests : ℤ → ℤ → List Test
+pointTests a b = (5 if (beyond a || beyond b)) ∷ []
 
 -- refusals 1, 2, 5 in this order
 abbrev pub assignTests : Bool → Register → ℤ → ℤ → List Test
-assignTests wellFormed g a b = (1 if not wellFormed) ∷ (2 if not (inUse (g .outline))) ∷ (5 if (beyond a || beyond b)) ∷ []
+assignTests wellFormed g a b = beginning wellFormed g ++ pointTests a b
 
 abbrev pub given : Verdict → Answer → Answer
 given accept a = a

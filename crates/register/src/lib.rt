@@ -1,13 +1,25 @@
-// The register's calls over three lent lists. No public call has a `requires`: lists of any length and content are taken, and what is
-// not well-formed is refused. A refused call changes nothing.
+// The register's founding and the assigning of reports, over three lent lists. No public call has a `requires`: lists of any length and content
+// are taken, and what is not well-formed is refused. A refused call changes nothing.
 mod founding;
+mod placing;
 mod sorting;
 
-use districts::Refusal;
+use fixes::Fix;
 pub use founding::found;
+pub use placing::assign_at;
+use refusals::Refusal;
 pub use sorting::assign;
 
 pub enum Founded {
     Done,
     Refused(Refusal),
+}
+
+// A report's position.
+pub enum Position {
+    // Whole millimetres.
+    Grid(i32, i32),
+    // Metres, from a receiver.
+    Fix(Fix),
+    Missing,
 }

@@ -2,8 +2,9 @@
 use districts::Assigned;
 use districts::Class;
 use districts::NUMBERS;
-use districts::Refusal;
 use districts::Report;
+use refusals::Refusal;
+use refusals::Verdict;
 use ring::Located;
 use ring::Point;
 use ring::Winding;
@@ -13,15 +14,15 @@ ghost use Prim.Native.Nat.{_+_, _<_};
 ghost use lib.Dec.{leb};
 ghost use lib.IntN.{pos};
 ghost use Rattle.exact.specs.Sign.{eqZ};
-ghost use Rattle.ring.specs.Grid.{pick};
-ghost use Rattle.ring.specs.Table.{count};
+ghost use Rattle.ring.specs.Choices.{pick, count};
 ghost use Rattle.ring.specs.Locate.{placeOf};
 ghost use Rattle.ring.specs.Walk.{OnGrid};
 ghost use Rattle.districts.specs.Lists.{district, meaning};
 ghost use Rattle.districts.specs.WellFormed.{wellFormed};
-ghost use Rattle.districts.specs.Answers.{belongs, answerOf};
-ghost use Rattle.register.specs.Sorting.{rests, winds, ofSlot, sorted, sortedBy, assigned};
-ghost use Rattle.register.specs.Calls.{Room};
+ghost use Rattle.refusals.specs.Verdicts.{verdict};
+ghost use Rattle.districts.specs.Answers.{belongs, report, answerOf};
+ghost use Rattle.register.specs.Sorting.{rests, winds, ofSlot, sorted, sortedBy, pointTests, given, assigned};
+ghost use Rattle.districts.specs.Lent.{GoodRuns};
 
 // How a point lies to one district.
 struct Stance {
@@ -66,7 +67,7 @@ fn lies_at(place: Located) -> Stance
 
 // How r lies to district d; to an unused number it lies outside.
 fn lies(store: &[i32], runs: &[u32], d: usize, r: Point) -> Stance
-    requires { ⌜ Room (now store) (now runs) ⌝ }
+    requires { ⌜ GoodRuns (now store) (now runs) ⌝ }
     requires { ⌜ d < 64 ⌝ }
     requires { ⌜ OnGrid r ⌝ }
     ensures { λ l. ⌜ (l .border ≡ ofSlot rests r (district (now (store .entry)) (now (runs .entry)) d)) × (l .inside ≡ ofSlot winds r (district (now (store .entry)) (now (runs .entry)) d)) ⌝ }
@@ -117,7 +118,7 @@ impl Seen {
 }
 
 fn sort(store: &[i32], runs: &[u32], r: Point) -> Class
-    requires { ⌜ Room (now store) (now runs) ⌝ }
+    requires { ⌜ GoodRuns (now store) (now runs) ⌝ }
     requires { ⌜ OnGrid r ⌝ }
     ensures { λ c. ⌜ belongs c ≡ sortedBy (λ d. ofSlot rests r (district (now (store .entry)) (now (runs .entry)) d)) (λ d. ofSlot winds r (district (now (store .entry)) (now (runs .entry)) d)) ⌝ }
 {
@@ -137,21 +138,26 @@ fn sort(store: &[i32], runs: &[u32], r: Point) -> Class
     seen.class()
 }
 
-// Where report `number` at (x, y) belongs.
-pub fn assign(outline: &[i32], store: &[i32], runs: &[u32], number: u32, x: i32, y: i32) -> Assigned
-    ensures { λ r. ⌜ answerOf r ≡ assigned (wellFormed (now (outline .entry)) (now (store .entry)) (now (runs .entry))) (meaning (now (outline .entry)) (now (store .entry)) (now (runs .entry))) number x y ⌝ }
+// Where report `number` at r belongs, in a register that is well-formed and has an outline.
+fn place(store: &[i32], runs: &[u32], number: u32, r: Point) -> Assigned
+    requires { ⌜ GoodRuns (now store) (now runs) ⌝ }
+    ensures { λ a. ⌜ answerOf a ≡ given (verdict (pointTests (r .x) (r .y))) (report number (sortedBy (λ d. ofSlot rests r (district (now (store .entry)) (now (runs .entry)) d)) (λ d. ofSlot winds r (district (now (store .entry)) (now (runs .entry)) d)))) ⌝ }
 {
-    if !districts::well_formed(outline, store, runs) {
-        return Assigned::Refused(Refusal::NotWellFormed);
-    }
-    if districts::outline_size(runs) == 0 {
-        return Assigned::Refused(Refusal::NoOutline);
-    }
-    if ring::beyond(x) | ring::beyond(y) {
+    if ring::beyond(r.x) | ring::beyond(r.y) {
         return Assigned::Refused(Refusal::BeyondGrid);
     }
     Assigned::Sorted(Report {
         number,
-        class: sort(store, runs, Point { x, y }),
+        class: sort(store, runs, r),
     })
+}
+
+// Where report `number` at (x, y) belongs.
+pub fn assign(outline: &[i32], store: &[i32], runs: &[u32], number: u32, x: i32, y: i32) -> Assigned
+    ensures { λ r. ⌜ answerOf r ≡ assigned (wellFormed (now (outline .entry)) (now (store .entry)) (now (runs .entry))) (meaning (now (outline .entry)) (now (store .entry)) (now (runs .entry))) number x y ⌝ }
+{
+    match districts::usable(outline, store, runs) {
+        Verdict::Accepted => place(store, runs, number, Point { x, y }),
+        Verdict::Refused(r) => Assigned::Refused(r),
+    }
 }

@@ -11,7 +11,8 @@ use lib.IntN.{ℤ, pos, _*ℤ_}
 use borrow.Author.Tests.{ltb-false}
 use Rattle.exact.proofs.Fours.{rest, rest-lt, rest-add, quarter-exact}
 use Rattle.ring.specs.declared.Point.{Point}
-use Rattle.ring.specs.Grid.{pick, point, beyond, someBeyond, vertices, noRing}
+use Rattle.ring.specs.Grid.{point, beyond, someBeyond, vertices, noRing}
+use Rattle.ring.specs.Choices.{pick}
 use Rattle.ring.specs.Rings.{at, total, ringSum}
 use Rattle.ring.specs.Turns.{quadrant, quarterTurns, winding, oddly}
 use Rattle.ring.specs.Segment.{same}

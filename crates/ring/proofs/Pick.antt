@@ -1,7 +1,7 @@
 -- Tests whose outcome is known: a choice by one, and the parts of one that failed. Assumes nothing.
 use mathlib.Core.Path.{_≡_, refl, ap}
 use mathlib.Core.Bool.{Bool, true, false, _||_}
-use Rattle.ring.specs.Grid.{pick}
+use Rattle.ring.specs.Choices.{pick}
 
 pub pick-true : {A : Type 0} {t : Bool} → t ≡ true → (a b : A) → pick t a b ≡ a
 pick-true e a b = ap (λ t. pick t a b) e

@@ -13,11 +13,11 @@ use Rattle.exact.proofs.Parts.{parts-sub, parts-neg, by-parts}
 use Rattle.exact.proofs.Signs.{flip, times, isPlus, isMinus, isNought, mayDiffer, every, every-at, provided, provided-yes, sign-mul, sign-sub, sign-turn, lt-sign, gt-sign, le-sign, ge-sign, eq-sign}
 use Rattle.exact.proofs.Fours.{rest}
 use Rattle.ring.specs.declared.Point.{Point}
-use Rattle.ring.specs.Grid.{pick}
+use Rattle.ring.specs.Choices.{pick, count}
 use Rattle.ring.specs.Rings.{Antisymmetric}
 use Rattle.ring.specs.Turns.{northEast, northWest, southWest, southEast, quadrant, determinant, twice, turnsBy, quarterTurns}
 use Rattle.ring.specs.Segment.{same, between, onSegment}
-use Rattle.ring.specs.Table.{byDeterminant, entry, turnOf, count}
+use Rattle.ring.specs.Table.{byDeterminant, turnOf}
 use Rattle.ring.proofs.Pick.{pick-true, pick-false}
 
 -- ---- the definitions by signs
@@ -48,7 +48,7 @@ abbrev pub onBy : Sign → Sign → Sign → Sign → Sign → Bool
 onBy px py qx qy d = isNought d && (betweenBy px qx && betweenBy py qy)
 
 abbrev pub turnsOf : Sign → Sign → Sign → Sign → Sign → ℤ
-turnsOf px py qx qy d = turnsBy (pos (quadrantBy qx qy) -ℤ pos (quadrantBy px py)) d
+turnsOf px py qx qy d = turnsBy (pos (quadrantBy qx qy) -ℤ pos (quadrantBy px py)) (twice d)
 
 -- five signs that can come together: the determinant is the difference of two products
 abbrev pub consistent : Sign → Sign → Sign → Sign → Sign → Bool
@@ -103,7 +103,7 @@ on-signs R P Q i = zero-sign (determinant R P Q) i && (between-signs (R .x) (P .
 
 pub turns-signs : (R P Q : Point) → quarterTurns R P Q ≡ seen turnsOf R P Q
 unfolding quarterTurns
-turns-signs R P Q i = turnsBy (pos (quadrant-signs R Q i) -ℤ pos (quadrant-signs R P i)) (sign (determinant R P Q))
+turns-signs R P Q i = turnsBy (pos (quadrant-signs R Q i) -ℤ pos (quadrant-signs R P i)) (twice (sign (determinant R P Q)))
 
 pub signs-consistent : (R P Q : Point) → T (seen consistent R P Q)
 unfolding determinant
@@ -177,7 +177,7 @@ marked t = not (ltZ t byDeterminant)
 abbrev turnAt : ℤ → Sign → ℤ
 turnAt t s = pick (marked t) (twice s) t
 
-turns-entry : (d : ℤ) (s : Sign) → turnsBy d s ≡ turnAt (entry d) s
+turns-entry : (d : ℤ) (s : Sign) → turnsBy d (twice s) ≡ turnAt (turnsBy d byDeterminant) s
 turns-entry (pos zero) s = refl
 turns-entry (pos (suc zero)) s = refl
 turns-entry (pos (suc (suc zero))) s = refl
@@ -232,30 +232,21 @@ twice-few minus = omega arith
 twice-few nought = omega arith
 twice-few plus = omega arith
 
-turns-by-few : (d : ℤ) (s : Sign) → natAbs (turnsBy d s) ≤ 2
-turns-by-few (pos zero) s = omega arith
-turns-by-few (pos (suc zero)) s = omega arith
-turns-by-few (pos (suc (suc zero))) s = twice-few s
-turns-by-few (pos (suc (suc (suc k)))) s = omega arith
-turns-by-few (negsuc zero) s = omega arith
-turns-by-few (negsuc (suc zero)) s = twice-few s
-turns-by-few (negsuc (suc (suc k))) s = omega arith
+turns-by-few : (d half : ℤ) → natAbs half ≤ 2 → natAbs (turnsBy d half) ≤ 2
+turns-by-few (pos zero) half few = omega arith
+turns-by-few (pos (suc zero)) half few = omega arith
+turns-by-few (pos (suc (suc zero))) half few = few
+turns-by-few (pos (suc (suc (suc k)))) half few = omega arith
+turns-by-few (negsuc zero) half few = omega arith
+turns-by-few (negsuc (suc zero)) half few = few
+turns-by-few (negsuc (suc (suc k))) half few = omega arith
 
 pub turns-few : (R P Q : Point) → natAbs (quarterTurns R P Q) ≤ 2
 unfolding quarterTurns
-turns-few R P Q = turns-by-few (pos (quadrant R Q) -ℤ pos (quadrant R P)) (sign (determinant R P Q))
-
-entry-size : (d : ℤ) → natAbs (entry d) ≤ 2
-entry-size (pos zero) = omega arith
-entry-size (pos (suc zero)) = omega arith
-entry-size (pos (suc (suc zero))) = omega arith
-entry-size (pos (suc (suc (suc k)))) = omega arith
-entry-size (negsuc zero) = omega arith
-entry-size (negsuc (suc zero)) = omega arith
-entry-size (negsuc (suc (suc k))) = omega arith
+turns-few R P Q = turns-by-few (pos (quadrant R Q) -ℤ pos (quadrant R P)) _ (twice-few (sign (determinant R P Q)))
 
 pub entry-few : (q r : ℕ) → natAbs (turnOf q r) ≤ 2
-entry-few q r = entry-size (pos r -ℤ pos q)
+entry-few q r = turns-by-few (pos r -ℤ pos q) byDeterminant (omega arith)
 
 -- ---- the reverse of an edge turns the other way
 
@@ -264,21 +255,24 @@ twice-flip minus = refl
 twice-flip nought = refl
 twice-flip plus = refl
 
-turns-flip : (d : ℤ) (s : Sign) → turnsBy (negℤ d) (flip s) ≡ negℤ (turnsBy d s)
-turns-flip (pos zero) s = refl
-turns-flip (pos (suc zero)) s = refl
-turns-flip (pos (suc (suc zero))) s = twice-flip s
-turns-flip (pos (suc (suc (suc k)))) s = refl
-turns-flip (negsuc zero) s = refl
-turns-flip (negsuc (suc zero)) s = twice-flip s
-turns-flip (negsuc (suc (suc k))) s = refl
+turns-flip : (d half : ℤ) → turnsBy (negℤ d) (negℤ half) ≡ negℤ (turnsBy d half)
+turns-flip (pos zero) half = refl
+turns-flip (pos (suc zero)) half = refl
+turns-flip (pos (suc (suc zero))) half = refl
+turns-flip (pos (suc (suc (suc k)))) half = refl
+turns-flip (negsuc zero) half = refl
+turns-flip (negsuc (suc zero)) half = refl
+turns-flip (negsuc (suc (suc k))) half = refl
 
 sub-turn : (x y : ℤ) → y -ℤ x ≡ negℤ (x -ℤ y)
 sub-turn x y = by-parts (y -ℤ x) (negℤ (x -ℤ y)) (omega (arith, parts-sub y x, parts-sub x y, parts-neg (x -ℤ y)))
 
 pub turns-reverse : (R : Point) → Antisymmetric (quarterTurns R)
 unfolding quarterTurns determinant
-turns-reverse R P Q = (λ i. turnsBy (sub-turn (pos (quadrant R Q)) (pos (quadrant R P)) i) (sign-turn ((P .x -ℤ R .x) *ℤ (Q .y -ℤ R .y)) ((Q .x -ℤ R .x) *ℤ (P .y -ℤ R .y)) i)) ∙ turns-flip (pos (quadrant R Q) -ℤ pos (quadrant R P)) (sign (determinant R P Q))
+turns-reverse R P Q =
+    let half = (sign-turn ((P .x -ℤ R .x) *ℤ (Q .y -ℤ R .y)) ((Q .x -ℤ R .x) *ℤ (P .y -ℤ R .y))) in
+    (λ i. turnsBy (sub-turn (pos (quadrant R Q)) (pos (quadrant R P)) i) ((ap twice half ∙ twice-flip (sign (determinant R P Q))) i))
+    ∙ turns-flip (pos (quadrant R Q) -ℤ pos (quadrant R P)) (twice (sign (determinant R P Q)))
 
 -- ---- an edge that does not hold R leads from the quadrant of its first end to that of its second, whole turns aside
 

@@ -13,7 +13,7 @@ use Rattle.exact.proofs.Bounds.{natAbs-sub}
 use Rattle.exact.proofs.Poly.{var, num, add, sub, mul, neg, identity}
 use Rattle.exact.proofs.Signs.{flip, isPlus, isMinus, sign-neg, gt-sign, le-sign, ge-sign}
 use Rattle.ring.specs.declared.Point.{Point}
-use Rattle.ring.specs.Grid.{pick}
+use Rattle.ring.specs.Choices.{pick}
 use Rattle.ring.specs.Turns.{quadrant}
 use Rattle.ring.specs.Table.{step, rank, byRow, byColumn}
 use Rattle.ring.specs.Walk.{OnGrid}

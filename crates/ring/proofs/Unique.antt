@@ -1,13 +1,12 @@
 -- No second outcome fits: an answer of the code that says where the point lies is the only one that does. Assumes nothing.
 use mathlib.Core.Path.{_≡_, refl, sym, ap, _∙_}
 use mathlib.Core.List.{List}
-use lib.Dec.{eqb}
 use lib.IntN.{ℤ}
 use Rattle.ring.specs.declared.Parity.the-variants.{Even, Odd}
-use Rattle.ring.specs.declared.Refusal.the-variants.{NoRing, BeyondGrid}
+use Rattle.refusals.proofs.Numbers.{refusalOf, refusal-back}
 use Rattle.ring.specs.declared.Located.{Located}
 use Rattle.ring.specs.declared.Located.the-variants.{Vertex, Edge, Off, Refused}
-use Rattle.ring.specs.Grid.{pick}
+use Rattle.ring.specs.Choices.{pick}
 use Rattle.ring.specs.Locate.{Place, vertex, edge, off, refused, located, placeOf}
 
 -- the code's answer that says a place: document 01's numbers and values are read back
@@ -15,15 +14,14 @@ abbrev answerOf : Place → Located
 answerOf (vertex i) = Vertex i
 answerOf (edge i) = Edge i
 answerOf (off w odd) = Off (record { 0 = w }) (pick odd Odd Even)
-answerOf (refused n) = Refused (pick (eqb n 4) NoRing BeyondGrid)
+answerOf (refused n) = Refused (refusalOf n)
 
 answer-place : (r : Located) → answerOf (placeOf r) ≡ r
 answer-place (Vertex i) = refl
 answer-place (Edge i) = refl
 answer-place (Off w Even) = refl
 answer-place (Off w Odd) = refl
-answer-place (Refused NoRing) = refl
-answer-place (Refused BeyondGrid) = refl
+answer-place (Refused r) = ap Refused (refusal-back r)
 
 -- two answers that say the same are the same
 pub placeOf-injective : (r s : Located) → placeOf r ≡ placeOf s → r ≡ s

@@ -1,16 +1,11 @@
 -- Document 01, "Grid and rings": coordinates, points, and the ring that a list x, y, x, y, .. is. Assumes nothing.
 use Prim.Native.Nat.{ℕ, _%_}
-use mathlib.Core.Bool.{Bool, true, false, _||_}
+use mathlib.Core.Bool.{Bool, false, _||_}
 use mathlib.Core.List.{List, [], _∷_}
 use lib.Dec.{ltb, eqb}
 use lib.IntN.{ℤ, pos, negsuc}
 use lib.Signed.{ltZ}
 use Rattle.ring.specs.declared.Point.{Point}
-
--- a if the test passes, otherwise b
-abbrev pub pick {ℓ} : {A : Type ℓ} → Bool → A → A → A
-pick true a b = a
-pick false a b = b
 
 -- a coordinate below -1,000,000,000 or above 1,000,000,000
 abbrev pub beyond : ℤ → Bool

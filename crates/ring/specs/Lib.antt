@@ -1,3 +1,4 @@
+pub mod Choices
 pub mod Grid
 pub mod Rings
 pub mod Turns

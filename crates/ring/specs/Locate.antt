@@ -8,11 +8,11 @@ use lib.IntN.{ℤ}
 use Rattle.ring.specs.declared.Point.{Point}
 use Rattle.ring.specs.declared.Parity.{Parity}
 use Rattle.ring.specs.declared.Parity.the-variants.{Even, Odd}
-use Rattle.ring.specs.declared.Refusal.{Refusal}
-use Rattle.ring.specs.declared.Refusal.the-variants.{NoRing, BeyondGrid}
+use Rattle.refusals.specs.Numbers.{numberOf}
 use Rattle.ring.specs.declared.Located.{Located}
 use Rattle.ring.specs.declared.Located.the-variants.{Vertex, Edge, Off, Refused}
-use Rattle.ring.specs.Grid.{pick, point, beyond, someBeyond, vertices, noRing}
+use Rattle.ring.specs.Grid.{point, beyond, someBeyond, vertices, noRing}
+use Rattle.ring.specs.Choices.{pick}
 use Rattle.ring.specs.Rings.{at}
 use Rattle.ring.specs.Segment.{same, onSegment}
 use Rattle.ring.specs.Turns.{winding, oddly}
@@ -54,10 +54,6 @@ located xs a b =
 abbrev pub isOdd : Parity → Bool
 isOdd Even = false
 isOdd Odd = true
-
-abbrev pub numberOf : Refusal → ℕ
-numberOf NoRing = 4
-numberOf BeyondGrid = 5
 
 abbrev pub placeOf : Located → Place
 placeOf (Vertex i) = vertex i

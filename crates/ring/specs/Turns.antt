@@ -7,7 +7,7 @@ use lib.IntN.{ℤ, pos, negsuc, natAbs, _-ℤ_, _*ℤ_}
 use lib.Signed.{ltZ, leZ, quotZ}
 use Rattle.exact.specs.Sign.{Sign, sign, plus, nought, minus}
 use Rattle.ring.specs.declared.Point.{Point}
-use Rattle.ring.specs.Grid.{pick}
+use Rattle.ring.specs.Choices.{pick}
 use Rattle.ring.specs.Rings.{Weight, ringSum}
 
 -- the four lines of the table: where P = (x, y) lies as seen from R = (a, b)
@@ -36,20 +36,20 @@ twice plus = pos 2
 twice nought = pos 0
 twice minus = negsuc 1
 
--- the quarter turns for a difference d of quadrant numbers: 0 for d = 0; 1 for d = 1 or -3; -1 for d = -1 or 3; for d = 2 or -2 twice the determinant's sign.
+-- the quarter turns for a difference d of quadrant numbers: 0 for d = 0; 1 for d = 1 or -3; -1 for d = -1 or 3; for d = 2 or -2 the given half turn.
 -- (Differences beyond 3 arise only at R itself and are counted as 3 is, so that the reverse of an edge always turns the other way.)
-abbrev pub turnsBy : ℤ → Sign → ℤ
-turnsBy (pos zero) s = pos 0
-turnsBy (pos (suc zero)) s = pos 1
-turnsBy (negsuc (suc (suc k))) s = pos 1
-turnsBy (negsuc zero) s = negsuc 0
-turnsBy (pos (suc (suc (suc k)))) s = negsuc 0
-turnsBy (pos (suc (suc zero))) s = twice s
-turnsBy (negsuc (suc zero)) s = twice s
+abbrev pub turnsBy : ℤ → ℤ → ℤ
+turnsBy (pos zero) half = pos 0
+turnsBy (pos (suc zero)) half = pos 1
+turnsBy (negsuc (suc (suc k))) half = pos 1
+turnsBy (negsuc zero) half = negsuc 0
+turnsBy (pos (suc (suc (suc k)))) half = negsuc 0
+turnsBy (pos (suc (suc zero))) half = half
+turnsBy (negsuc (suc zero)) half = half
 
 -- the quarter turns of the edge from P to Q as seen from R
 unfoldable pub quarterTurns : Point → Weight
-quarterTurns R P Q = turnsBy (pos (quadrant R Q) -ℤ pos (quadrant R P)) (sign (determinant R P Q))
+quarterTurns R P Q = turnsBy (pos (quadrant R Q) -ℤ pos (quadrant R P)) (twice (sign (determinant R P Q)))
 
 -- a quarter of the quarter turns of all edges
 unfoldable pub winding : List Point → Point → ℤ

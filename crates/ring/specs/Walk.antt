@@ -10,7 +10,8 @@ use Rattle.exact.specs.declared.Arrow.{Arrow}
 use Rattle.exact.specs.Sign.{Short}
 use Rattle.ring.specs.declared.Point.{Point}
 use Rattle.ring.specs.declared.walk.Walk.{Walk}
-use Rattle.ring.specs.Grid.{pick, someBeyond}
+use Rattle.ring.specs.Grid.{someBeyond}
+use Rattle.ring.specs.Choices.{pick}
 use Rattle.ring.specs.Rings.{at}
 use Rattle.ring.specs.Turns.{quadrant}
 

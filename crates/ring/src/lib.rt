@@ -8,15 +8,16 @@ mod walk;
 pub use grid::beyond;
 pub use grid::some_beyond;
 pub use grid::vertex;
+use refusals::Refusal;
 pub use walk::locate_on;
 ghost use mathlib.Core.Path.{_≡_};
 ghost use Prim.Native.Nat.{_/_};
 ghost use Rattle.ring.specs.Grid.{noRing};
 ghost use Rattle.ring.specs.Locate.{located, placeOf};
 
-const FEWEST_VERTICES: usize = 3;
+pub const FEWEST_VERTICES: usize = 3;
 
-const MOST_VERTICES: usize = 2048;
+pub const MOST_VERTICES: usize = 2048;
 
 // A point of the grid, in whole millimetres.
 pub struct Point {
@@ -32,13 +33,6 @@ pub struct Winding(pub i32);
 pub enum Parity {
     Even,
     Odd,
-}
-
-pub enum Refusal {
-    // The list has an odd length, or fewer than 3 or more than 2,048 vertices.
-    NoRing,
-    // A coordinate of the ring or of the point is beyond the grid.
-    BeyondGrid,
 }
 
 pub enum Located {

@@ -17,8 +17,8 @@ use Rattle.ring.specs.Rings.{at}
 use Rattle.ring.proofs.Vertices.{origin, length-vertices}
 use Rattle.districts.specs.Lists.{part}
 use Rattle.districts.specs.WellFormed.{total}
-use Rattle.register.specs.Calls.{written}
-use Rattle.register.proofs.Runs.{part-length}
+use Rattle.districts.specs.Lent.{written}
+use Rattle.districts.proofs.Lent.{part-length}
 use Rattle.room.specs.Runs.{run}
 use Rattle.room.specs.Writing.{numbersOf, behind, entered, Added}
 

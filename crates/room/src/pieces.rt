@@ -4,7 +4,7 @@ ghost use mathlib.Core.List.{_++_, reverse};
 ghost use Prim.Native.Nat.{_+_, _*_, _%_, _<_, _≤_};
 ghost use lib.ListN.{length, set};
 ghost use Rattle.ring.specs.Grid.{vertices};
-ghost use Rattle.register.specs.Calls.{written};
+ghost use Rattle.districts.specs.Lent.{written};
 ghost use Rattle.districts.specs.Lists.{firstPlace, size as sizeOf, part};
 ghost use Rattle.room.specs.Runs.{run};
 ghost use Rattle.room.specs.Writing.{numbersOf};

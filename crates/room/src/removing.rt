@@ -5,7 +5,7 @@ ghost use mathlib.Core.Path.{_≡_};
 ghost use Prim.Native.Nat.{_+_, _-_, _<_, _≤_};
 ghost use lib.Dec.{leb};
 ghost use lib.ListN.{length};
-ghost use Rattle.ring.specs.Grid.{pick};
+ghost use Rattle.ring.specs.Choices.{pick};
 ghost use Rattle.room.specs.Writing.{closed, Lowered, Left};
 ghost use Rattle.districts.specs.Lists.{firstPlace, size as sizeOf};
 ghost use Rattle.districts.specs.WellFormed.{total as totalOf};

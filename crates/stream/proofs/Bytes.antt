@@ -5,7 +5,7 @@ use mathlib.Core.List.{List, [], _∷_}
 use Rattle.ring.specs.declared.Point.{Point}
 use Rattle.ring.specs.Rings.{Weight, Antisymmetric}
 use Rattle.districts.specs.Register.{Register}
-use Rattle.register.specs.Calls.{means, formed}
+use Rattle.districts.specs.Lent.{means, formed}
 use Rattle.tally.specs.Tally.{fresh, sum, run, accepted}
 use Rattle.tally.proofs.Totals.{sum-counts}
 use Rattle.history.specs.Histories.{Call, founding, splitting, merging, reporting, empty, after}

@@ -6,7 +6,7 @@ use mathlib.Core.Bool.{Bool, true, false, true≢false}
 use mathlib.Core.List.{List, [], _∷_, _++_, append-assoc, append-nil}
 use lib.ListN.{length, drop, length-drop, length-append}
 use lib.Seq.{drop-drop}
-use Rattle.register.specs.Calls.{Lists, formed, means}
+use Rattle.districts.specs.Lent.{Lists, formed, means}
 use Rattle.tally.specs.declared.Tally.{Tally}
 use Rattle.history.specs.Histories.{Call}
 use Rattle.records.proofs.Sizes.{Size, whole-size}

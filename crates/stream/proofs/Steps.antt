@@ -10,10 +10,10 @@ use lib.IntN.{ℤ}
 use lib.ListN.{length, take, drop, length-drop}
 use lib.Seq.{take-length, drop-drop}
 use borrow.Author.Tests.{lt-ltb, le-ltb}
-use Rattle.register.specs.Verdict.{Verdict, accept, refuse, verdict}
+use Rattle.refusals.specs.Verdicts.{Verdict, accept, refuse, verdict}
 use Rattle.register.specs.Founding.{foundTests}
-use Rattle.positions.specs.Placing.{placeTests}
-use Rattle.register.specs.Calls.{Lists, formed, means}
+use Rattle.register.specs.Placing.{placeTests}
+use Rattle.districts.specs.Lent.{Lists, formed, means}
 use Rattle.tally.specs.declared.Tally.{Tally}
 use Rattle.tally.specs.Tally.{fresh}
 use Rattle.judging.specs.Splitting.{splitTests}

@@ -7,7 +7,7 @@ use mathlib.Core.List.{List}
 use lib.IntN.{ℤ}
 use lib.ListN.{length, drop, length-drop}
 use Rattle.districts.specs.Register.{Register}
-use Rattle.register.specs.Calls.{Lists, formed, means}
+use Rattle.districts.specs.Lent.{Lists, formed, means}
 use Rattle.tally.specs.declared.Tally.{Tally}
 use Rattle.history.specs.Histories.{Call}
 use Rattle.records.specs.Layout.{Front, whole, more, broken, front}

@@ -5,7 +5,7 @@ use mathlib.Core.List.{List, [], _∷_, _++_}
 use lib.ListN.{length}
 use Rattle.districts.specs.Register.{Register}
 use Rattle.districts.specs.Answers.{Answer}
-use Rattle.positions.specs.Placing.{assignedAt}
+use Rattle.register.specs.Placing.{assignedAt}
 use Rattle.tally.specs.declared.Tally.{Tally}
 use Rattle.tally.specs.Tally.{fresh, onesOf}
 use Rattle.history.specs.Histories.{Call, founding, splitting, merging, reporting, empty, step}

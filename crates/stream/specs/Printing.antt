@@ -4,7 +4,7 @@ use mathlib.Core.Path.{_≡_}
 use mathlib.Core.Bool.{true, false}
 use mathlib.Core.List.{List, _++_}
 use lib.ListN.{length, drop}
-use Rattle.register.specs.Calls.{Lists, formed, means}
+use Rattle.districts.specs.Lent.{Lists, formed, means}
 use Rattle.history.specs.Histories.{Call}
 use Rattle.records.specs.Layout.{front, whole, more, broken}
 use Rattle.wording.specs.Text.{Laid}

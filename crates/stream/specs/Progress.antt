@@ -5,7 +5,7 @@ use mathlib.Core.Path.{_≡_}
 use mathlib.Core.Bool.{true, false}
 use mathlib.Core.List.{List, []}
 use lib.ListN.{length, drop}
-use Rattle.register.specs.Calls.{Lists, formed, means}
+use Rattle.districts.specs.Lent.{Lists, formed, means}
 use Rattle.tally.specs.declared.Tally.{Tally}
 use Rattle.stream.specs.declared.reading.Place.{Place}
 use Rattle.stream.specs.Streams.{callsOf, leftOf}

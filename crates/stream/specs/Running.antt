@@ -4,7 +4,7 @@ use mathlib.Core.Path.{_≡_}
 use mathlib.Core.Bool.{true}
 use mathlib.Core.List.{List}
 use lib.ListN.{length}
-use Rattle.register.specs.Calls.{Lists, formed, means}
+use Rattle.districts.specs.Lent.{Lists, formed, means}
 use Rattle.stream.specs.declared.Grouped.{Grouped}
 use Rattle.stream.specs.Streams.{callsOf, brokenOff}
 use Rattle.stream.specs.Desks.{opening, through}

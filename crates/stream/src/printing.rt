@@ -8,7 +8,7 @@ ghost use mathlib.Core.Path.{_≡_};
 ghost use mathlib.Core.Bool.{true, false};
 ghost use Prim.Native.Nat.{_+_, _<_};
 ghost use lib.ListN.{length};
-ghost use Rattle.register.specs.Calls.{formed};
+ghost use Rattle.districts.specs.Lent.{formed};
 ghost use Rattle.stream.specs.Progress.{deskOf};
 ghost use Rattle.stream.specs.Printing.{Printed, numbers, Ready, TurnedBy};
 

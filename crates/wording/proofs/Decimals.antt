@@ -9,7 +9,7 @@ use lib.ListN.{length, take, drop, set, length-set, length-drop, length-append, 
 use lib.Seq.{drop-cons, drop-set-lt, getD-set-same, take-all}
 use borrow.Author.Tests.{lt-ltb, le-ltb}
 use Rattle.ring.proofs.Pick.{pick-true, pick-false}
-use Rattle.ring.specs.Grid.{pick}
+use Rattle.ring.specs.Choices.{pick}
 use Rattle.wording.specs.Text.{digit, spelled, decimal, Laid}
 
 -- numbers of at most so many digits are below it

@@ -4,7 +4,7 @@ use mathlib.Core.Path.{_≡_}
 use mathlib.Core.List.{List, _++_}
 use lib.Dec.{ltb}
 use lib.ListN.{length}
-use Rattle.ring.specs.Grid.{pick}
+use Rattle.ring.specs.Choices.{pick}
 use Rattle.districts.specs.Answers.{Belongs, border, one, none, several, belongs}
 use Rattle.wording.specs.declared.Kind as CodeKind
 use Rattle.wording.specs.declared.Kind.the-variants.{Outline, Split, Merge, Report, Broken}

@@ -8,7 +8,7 @@ use lib.ListN.{length}
 use borrow.Author.Needs.{needs}
 use borrow.Author.Tests.{ltb-true}
 use Rattle.districts.proofs.Tests.{both-right}
-use Rattle.register.specs.Calls.{formed}
+use Rattle.districts.specs.Lent.{formed}
 use Rattle.group.specs.Held.{piece, Kept}
 use Rattle.group.proofs.read_all.Statement.{statement}
 use Rattle.group.proofs.read_all.Tie as tie

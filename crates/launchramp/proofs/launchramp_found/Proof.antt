@@ -2,7 +2,7 @@
 use mathlib.Core.Path.{ap, subst}
 use borrow.Author.Needs.{needs}
 use Rattle.register.specs.Founding.{founded}
-use Rattle.register.specs.Calls.{Leaves}
+use Rattle.districts.specs.Lent.{Leaves}
 use Rattle.launchramp.specs.Codes.{verdictCode}
 use Rattle.launchramp.proofs.Values.{tells-as}
 use Rattle.launchramp.proofs.launchramp_found.Statement.{statement}

@@ -1,7 +1,7 @@
 -- `applying::saying::changed` meets its contract. Assumes nothing.
 use mathlib.Core.Path.{ap, sym, _∙_}
 use borrow.Author.Needs.{needs}
-use Rattle.judging.specs.Answers.{answerOf}
+use Rattle.changes.specs.Answers.{answerOf}
 use Rattle.wording.specs.Lines.{refused}
 use Rattle.applying.specs.Replies.{changing}
 use Rattle.applying.proofs.saying.changed.Statement.{statement}

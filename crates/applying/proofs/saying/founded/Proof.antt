@@ -1,7 +1,7 @@
 -- `applying::saying::founded` meets its contract. Assumes nothing.
 use mathlib.Core.Path.{ap, sym, _∙_}
 use borrow.Author.Needs.{needs}
-use Rattle.register.specs.Calls.{verdictOf}
+use Rattle.register.specs.Calls.{outcomeOf}
 use Rattle.wording.specs.Lines.{ok, refused}
 use Rattle.applying.specs.Replies.{sayingOf}
 use Rattle.applying.proofs.saying.founded.Statement.{statement}

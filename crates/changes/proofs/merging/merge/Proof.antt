@@ -1,9 +1,9 @@
 -- `changes::merging::merge` performs what is not refused, and otherwise leaves the lists. Assumes nothing.
 use mathlib.Core.Path.{_≡_, refl, sym, ap, _∙_}
-use Rattle.register.specs.Verdict.{accept, verdict}
-use Rattle.register.specs.Calls.{Lists, formed, means}
+use Rattle.refusals.specs.Verdicts.{accept, verdict}
+use Rattle.districts.specs.Lent.{Lists, formed, means}
 use Rattle.judging.specs.Merging.{mergeTests}
-use Rattle.judging.specs.Answers.{answerOf}
+use Rattle.changes.specs.Answers.{answerOf}
 use Rattle.changes.proofs.Granted.{joint, pair, merge-well-formed, merge-meaning}
 use Rattle.changes.proofs.Outcomes.{accepting, change-done, change-refused}
 use borrow.Author.Needs.{needs}

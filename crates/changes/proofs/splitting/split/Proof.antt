@@ -5,12 +5,12 @@ use mathlib.Core.Path.{_≡_, sym, ap, subst, _∙_}
 use borrow.Author.Needs.{needs}
 use Rattle.ring.specs.Grid.{vertices}
 use Rattle.districts.specs.Lists.{firstPlace, size, part}
-use Rattle.register.specs.Verdict.{accept, verdict}
-use Rattle.register.specs.Calls.{Lists, formed, means}
+use Rattle.refusals.specs.Verdicts.{accept, verdict}
+use Rattle.districts.specs.Lent.{Lists, formed, means}
 use Rattle.judging.specs.Splitting.{pieceOne, pieceTwo, lowestUnused, splitTests}
 use Rattle.judging.specs.Judging.{lowestFree}
 use Rattle.changes.specs.Performing.{Divided}
-use Rattle.judging.specs.Answers.{answerOf}
+use Rattle.changes.specs.Answers.{answerOf}
 use Rattle.judging.proofs.Judged.{free-is}
 use Rattle.changes.proofs.Accepted.{right, facts, free, fits, split-below, split-well-formed, split-meaning}
 use Rattle.changes.proofs.Outcomes.{accepting, change-done, change-refused}

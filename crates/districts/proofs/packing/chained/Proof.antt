@@ -4,7 +4,6 @@ use Prim.Native.Nat.{_+_, _-_}
 use native.Mathlib.Omega.{arith}
 use mathlib.Core.Path.{_≡_, sym, ap, _∙_}
 use lib.ListN.{getD}
-use lib.Dec.{eqb}
 use borrow.Author.Needs.{needs}
 use Rattle.districts.specs.Lists.{firstPlace, size}
 use Rattle.districts.specs.Places.{Starts}
@@ -64,7 +63,7 @@ returns-2 c =
     let start = c .before .before .before .before in
     let all : start .args .all ≡ total (start .args .runs .now) = start .pre .1 .0 in
     let marked = start .pre .1 .1 .1 in
-    ap (λ n. eqb (c .before .loop .place) n) all ∙ comes-to-end _ _ marked _ (c .before .loop .inv) (let left = c .loop-test .left in omega arith)
+    sym (comes-to-end _ _ marked _ (c .before .loop .inv) (let left = c .loop-test .left in omega arith))
 
 pub chained-spec : {M : Type 1} → statement M
 chained-spec =

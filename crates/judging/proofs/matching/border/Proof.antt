@@ -11,9 +11,9 @@ use Rattle.ring.specs.Grid.{vertices}
 use Rattle.ring.proofs.Pick.{neither-left, neither-right}
 use Rattle.ring.proofs.Vertices.{length-vertices}
 use Rattle.districts.proofs.Tests.{passes-left, passes-right}
-use Rattle.register.specs.Verdict.{Test, _if_, verdict}
+use Rattle.refusals.specs.Verdicts.{Test, _if_, verdict}
 use Rattle.judging.specs.Merging.{matches, merged}
-use Rattle.judging.specs.Answers.{Answer, answers}
+use Rattle.changes.specs.Answers.{Answer, answers}
 use Rattle.judging.proofs.Tables.{answer-stops, answer-passes, answer-given}
 use Rattle.judging.proofs.Matched.{merged-length}
 use borrow.Author.Needs.{needs}

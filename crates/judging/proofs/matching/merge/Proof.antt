@@ -5,12 +5,12 @@ use lib.Dec.{eqb}
 use borrow.Author.Needs.{needs}
 use borrow.Author.Tests.{eq-eqb, ne-eqb, not-true, not-false}
 use Rattle.districts.proofs.Meaning.{slot-is}
-use Rattle.register.specs.Verdict.{verdict}
-use Rattle.register.specs.Sorting.{inUse}
-use Rattle.register.specs.Calls.{Lists, Room, formed, means}
-use Rattle.register.proofs.Rooms.{room, outline-in-use}
+use Rattle.refusals.specs.Verdicts.{verdict}
+use Rattle.districts.specs.Register.{inUse}
+use Rattle.districts.specs.Lent.{Lists, GoodRuns, formed, means}
+use Rattle.districts.proofs.Lent.{good-runs, outline-in-use}
 use Rattle.judging.specs.Judging.{pairTests}
-use Rattle.judging.specs.Answers.{answers}
+use Rattle.changes.specs.Answers.{answers}
 use Rattle.judging.proofs.Tables.{answer-stops, answer-passes}
 use Rattle.judging.proofs.matching.merge.Statement.{statement}
 use Rattle.judging.proofs.matching.merge.Tie as tie

@@ -10,16 +10,13 @@ use lib.ListN.{length, take, drop}
 use borrow.Author.Tests.{eq-eqb, ne-eqb, eqb-false, not-true, not-false}
 use Rattle.ring.specs.Grid.{vertices}
 use Rattle.ring.proofs.Pick.{neither-left, neither-right}
-use Rattle.districts.specs.Register.{Slot}
+use Rattle.districts.specs.Register.{Slot, inUse, verticesOf}
 use Rattle.districts.specs.Lists.{firstPlace, size, part, district}
 use Rattle.districts.proofs.Meaning.{ring-when}
-use Rattle.register.specs.Verdict.{verdict}
-use Rattle.register.specs.Sorting.{inUse}
-use Rattle.register.proofs.Rooms.{held-in-use}
-use Rattle.register.proofs.Runs.{cut}
-use Rattle.room.specs.Runs.{verticesOf}
+use Rattle.refusals.specs.Verdicts.{verdict}
+use Rattle.districts.proofs.Lent.{held-in-use, cut}
 use Rattle.judging.specs.Judging.{borderTests}
-use Rattle.judging.specs.Answers.{answers}
+use Rattle.changes.specs.Answers.{answers}
 use Rattle.judging.proofs.Tables.{answer-stops, answer-passes}
 use borrow.Author.Needs.{needs}
 use Rattle.judging.proofs.matching.pair.Statement.{statement}

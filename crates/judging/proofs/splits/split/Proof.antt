@@ -6,16 +6,15 @@ use mathlib.Core.Bool.{Bool, true, false, not}
 use lib.Dec.{eqb}
 use borrow.Author.Needs.{needs}
 use borrow.Author.Tests.{eq-eqb, ne-eqb, not-true, not-false}
-use Rattle.districts.specs.Register.{slot}
+use Rattle.districts.specs.Register.{slot, inUse}
 use Rattle.districts.specs.Lists.{size}
 use Rattle.districts.specs.WellFormed.{total}
 use Rattle.districts.proofs.Counting.{term-most}
-use Rattle.register.specs.Verdict.{verdict}
-use Rattle.register.specs.Sorting.{inUse}
-use Rattle.register.specs.Calls.{Lists, formed, means}
-use Rattle.register.proofs.Rooms.{outline-in-use}
+use Rattle.refusals.specs.Verdicts.{verdict}
+use Rattle.districts.specs.Lent.{Lists, formed, means}
+use Rattle.districts.proofs.Lent.{outline-in-use}
 use Rattle.judging.specs.Judging.{lowestFree, cutTests}
-use Rattle.judging.specs.Answers.{answers}
+use Rattle.changes.specs.Answers.{answers}
 use Rattle.room.proofs.Forms.{Sound, sound}
 use Rattle.judging.proofs.Tables.{answer-stops, answer-passes}
 use Rattle.judging.proofs.Judged.{used-is, free-is, tests-are}

@@ -1,7 +1,7 @@
 -- `launchramp::telling::changed` meets its contract. Assumes nothing.
 use mathlib.Core.Path.{ap, sym, _∙_}
 use borrow.Author.Needs.{needs}
-use Rattle.judging.specs.Answers.{answerOf}
+use Rattle.changes.specs.Answers.{answerOf}
 use Rattle.launchramp.specs.Codes.{refusedCode, changeCode}
 use Rattle.launchramp.proofs.Values.{tells-as}
 use Rattle.launchramp.proofs.telling.changed.Statement.{statement}

@@ -1,7 +1,7 @@
 -- `launchramp::telling::founded` meets its contract. Assumes nothing.
 use mathlib.Core.Path.{ap, sym}
 use borrow.Author.Needs.{needs}
-use Rattle.register.specs.Calls.{verdictOf}
+use Rattle.register.specs.Calls.{outcomeOf}
 use Rattle.launchramp.specs.Codes.{verdictCode}
 use Rattle.launchramp.proofs.Values.{tells-as}
 use Rattle.launchramp.proofs.telling.founded.Statement.{statement}

@@ -13,7 +13,7 @@ use mir.Syntax.{w32}
 use mir.Val.{SFits}
 use mir.Facts.{toZ-ofZ}
 use borrow.Author.Needs.{needs}
-use Rattle.register.specs.Calls.{written}
+use Rattle.districts.specs.Lent.{written}
 use Rattle.register.proofs.founding.copy.Statement.{statement}
 use Rattle.register.proofs.founding.copy.Tie as tie
 

@@ -11,14 +11,16 @@ use borrow.Author.Tests.{eqb-true, not-false}
 use Rattle.ring.specs.Grid.{noRing, someBeyond}
 use Rattle.districts.specs.Lists.{outlineSize}
 use Rattle.districts.proofs.Sound.{outline-length, store-length, runs-length}
-use Rattle.districts.specs.declared.Refusal.{Refusal}
+use Rattle.refusals.specs.declared.Refusal.{Refusal}
 use Rattle.register.specs.declared.Founded.{Founded}
-use Rattle.register.specs.declared.Founded.the-variants.{Refused}
-use Rattle.register.specs.Verdict.{accept, verdict}
+use Rattle.register.specs.declared.Founded.the-variants.{Done, Refused}
+use Rattle.refusals.specs.Numbers.{numberOf}
+use Rattle.refusals.specs.Verdicts.{accept, refuse, verdict, verdictOf}
 use Rattle.register.specs.Founding.{foundTests, founded}
-use Rattle.register.specs.Calls.{verdictOf, Lists, formed, means, Leaves, Wrote, FoundBy}
-use Rattle.register.proofs.Rooms.{outline-in-use}
-use Rattle.register.proofs.Verdicts.{accepted}
+use Rattle.register.specs.Calls.{outcomeOf, Wrote, FoundBy}
+use Rattle.districts.specs.Lent.{Lists, formed, means, Leaves}
+use Rattle.districts.proofs.Lent.{outline-in-use}
+use Rattle.refusals.proofs.Verdicts.{accepted}
 use Rattle.register.proofs.Founds.{left-well-formed, left-meaning, room-for}
 use Rattle.register.proofs.founding.found.Statement.{statement}
 use Rattle.register.proofs.founding.found.Tie as tie
@@ -47,25 +49,23 @@ free l xs e =
     }
 
 -- the two outcomes
-wrote-all : (r : Founded) (xs : List ℤ) (l after : Lists) → Free l xs → verdict (foundTests (formed l) (means l) xs) ≡ accept → Wrote r xs l after → FoundBy r xs l after
-wrote-all r xs l after f e w =
-    let lists = w .1 in
-    record {
-      said = ap verdictOf (w .0) ∙ sym e;
-      left = subst (λ v. Leaves v (founded xs) l after) (sym (ap verdictOf (w .0))) (
-        ap formed lists ∙ left-well-formed (l .outline) (l .store) (l .runs) xs (f .good) (f .none) (f .a-ring) (f .grid),
-        ap means lists ∙ left-meaning (l .outline) (l .store) (l .runs) xs (f .good) (f .none) (f .a-ring) (f .grid),
-      );
-    }
+wrote-all : (xs : List ℤ) (l after : Lists) → Free l xs → verdict (foundTests (formed l) (means l) xs) ≡ accept → Wrote xs l after → FoundBy Done xs l after
+wrote-all xs l after f e lists = record {
+  said = sym e;
+  left = (
+    ap formed lists ∙ left-well-formed (l .outline) (l .store) (l .runs) xs (f .good) (f .none) (f .a-ring) (f .grid),
+    ap means lists ∙ left-meaning (l .outline) (l .store) (l .runs) xs (f .good) (f .none) (f .a-ring) (f .grid),
+  );
+}
 
-left-all : (r : Founded) (q : Refusal) (xs : List ℤ) (l : Lists) → r ≡ Refused q → verdictOf r ≡ verdict (foundTests (formed l) (means l) xs) → FoundBy r xs l l
-left-all r q xs l e v = record { said = v; left = subst (λ w. Leaves w (founded xs) l l) (sym (ap verdictOf e)) refl }
+left-all : (q : Refusal) (xs : List ℤ) (l : Lists) → verdict (foundTests (formed l) (means l) xs) ≡ refuse (numberOf q) → FoundBy (Refused q) xs l l
+left-all q xs l e = record { said = sym e; left = refl }
 
-judged-free : (c : tie.After-enum-told) → Free (lent (c .before .before .before .before .before .before .before)) (c .before .before .before .before .before .before .before .args .ring .now)
-judged-free c =
-    let judged = c .before .before in
-    let start = judged .before .before .before .before .before in
-    free (lent start) (start .args .ring .now) (sym (judged .judged .ensures) ∙ ap verdictOf (c .enum-told .given .1))
+told-free : (c : tie.After-enum-told) → let s = c .before .before .before .before .before .before .before in verdict (foundTests (formed (lent s)) (means (lent s)) (s .args .ring .now)) ≡ accept
+told-free c = sym (c .before .before .judged .ensures) ∙ ap verdictOf (c .enum-told .given .1)
+
+judged-free : (c : tie.After-enum-told) → let s = c .before .before .before .before .before .before .before in Free (lent s) (s .args .ring .now)
+judged-free c = let s = c .before .before .before .before .before .before .before in free (lent s) (s .args .ring .now) (told-free c)
 
 judged-requires : tie.Need-judged-requires
 judged-requires c κs = search needs
@@ -90,8 +90,8 @@ write-requires c κs =
       ),
     )
 
-enum-told-2 : tie.Need-enum-told-2
-enum-told-2 c = search needs
+enum-known-r : tie.Need-enum-known-r
+enum-known-r c = search needs
 
 same-length : tie.Need-same-length
 same-length c = search needs
@@ -106,9 +106,8 @@ returns : tie.Need-returns
 returns c =
     let wrote = c .before .before .before .before in
     let told = wrote .before .before .before .before in
-    let judged = told .before .before in
-    let start = judged .before .before .before .before .before in
-    wrote-all _ (start .args .ring .now) (lent start) _ (judged-free told) (sym (judged .judged .ensures) ∙ ap verdictOf (told .enum-told .given .1)) (wrote .write .ensures)
+    let start = told .before .before .before .before .before .before .before in
+    wrote-all (start .args .ring .now) (lent start) _ (judged-free told) (told-free told) (wrote .write .ensures)
 
 same-length-4 : tie.Need-same-length-4
 same-length-4 c = search needs
@@ -121,9 +120,10 @@ same-length-6 c = search needs
 
 returns-2 : tie.Need-returns-2
 returns-2 c =
-    let judged = c .before .before in
+    let told = c .before in
+    let judged = told .before .before in
     let start = judged .before .before .before .before .before in
-    left-all _ _ (start .args .ring .now) (lent start) (c .enum-told2 .given .1) (judged .judged .ensures)
+    left-all _ (start .args .ring .now) (lent start) (sym (judged .judged .ensures) ∙ ap verdictOf (told .r .given .1))
 
 pub found-spec : {M : Type 1} → statement M
 found-spec =
@@ -132,7 +132,7 @@ found-spec =
     judged-requires
     enum-told
     write-requires
-    enum-told-2
+    enum-known-r
     same-length
     same-length-2
     same-length-3

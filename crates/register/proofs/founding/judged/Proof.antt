@@ -11,12 +11,12 @@ use borrow.Author.Needs.{needs}
 use borrow.Author.Tests.{eq-eqb, ne-eqb, not-true, not-false}
 use Rattle.ring.specs.Grid.{noRing, someBeyond}
 use Rattle.districts.proofs.Sound.{runs-length}
-use Rattle.register.specs.Verdict.{_if_, verdict}
-use Rattle.register.specs.Sorting.{inUse}
+use Rattle.refusals.specs.Verdicts.{_if_, verdict}
+use Rattle.districts.specs.Register.{inUse}
 use Rattle.register.specs.Founding.{foundTests}
-use Rattle.register.specs.Calls.{Lists, formed, means}
-use Rattle.register.proofs.Rooms.{outline-in-use}
-use Rattle.register.proofs.Verdicts.{stops-at, passes, passed-all}
+use Rattle.districts.specs.Lent.{Lists, formed, means}
+use Rattle.districts.proofs.Lent.{outline-in-use}
+use Rattle.refusals.proofs.Verdicts.{stops-at, passes, passed-all}
 use Rattle.register.proofs.founding.judged.Statement.{statement}
 use Rattle.register.proofs.founding.judged.Tie as tie
 

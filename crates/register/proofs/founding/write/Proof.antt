@@ -1,5 +1,4 @@
 -- `register::founding::write` writes the ring to the outline and to the store, and the runs. Assumes nothing.
-use mathlib.Core.Path.{refl}
 use borrow.Author.Needs.{needs}
 use Rattle.register.proofs.founding.write.Statement.{statement}
 use Rattle.register.proofs.founding.write.Tie as tie
@@ -27,7 +26,7 @@ returns c =
     let third = c .before .before in
     let second = third .before .before .before in
     let first = second .before .before .before in
-    (refl, λ i. record { outline = first .copy .ensures i; store = second .copy2 .ensures i; runs = third .place .ensures i })
+    λ i. record { outline = first .copy .ensures i; store = second .copy2 .ensures i; runs = third .place .ensures i }
 
 pub write-spec : {M : Type 1} → statement M
 write-spec =

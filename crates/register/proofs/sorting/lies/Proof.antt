@@ -9,7 +9,7 @@ use Rattle.ring.specs.Walk.{Ready}
 use Rattle.districts.specs.Lists.{firstPlace, size, part}
 use Rattle.districts.proofs.Meaning.{unused-when, ring-when}
 use Rattle.register.specs.Sorting.{rests, winds, ofSlot}
-use Rattle.register.proofs.Runs.{cut, ready}
+use Rattle.districts.proofs.Lent.{cut, ready}
 use borrow.Author.Needs.{needs}
 use Rattle.register.proofs.sorting.lies.Statement.{statement}
 use Rattle.register.proofs.sorting.lies.Tie as tie

@@ -8,8 +8,7 @@ use lib.Dec.{leb}
 use lib.IntN.{ℤ}
 use borrow.Author.Needs.{needs}
 use Rattle.ring.specs.declared.Point.{Point}
-use Rattle.ring.specs.Grid.{pick}
-use Rattle.ring.specs.Table.{count}
+use Rattle.ring.specs.Choices.{pick, count}
 use Rattle.districts.specs.Lists.{district}
 use Rattle.register.specs.Sorting.{rests, winds, ofSlot}
 use Rattle.register.proofs.Sorts.{Sorts, sorts-none, sorts-more, sorts-border, sorts-all}

@@ -4,8 +4,8 @@ use native.Mathlib.Omega.{arith}
 use mathlib.Core.Path.{ap, _∙_}
 use lib.ListN.{length, take, drop}
 use Rattle.districts.specs.Lists.{part}
-use Rattle.register.specs.Calls.{written}
-use Rattle.register.proofs.Runs.{cut, part-length}
+use Rattle.districts.specs.Lent.{written}
+use Rattle.districts.proofs.Lent.{cut, part-length}
 use Rattle.room.proofs.Written.{copied}
 use borrow.Author.Needs.{needs}
 use Rattle.room.proofs.pieces.read.Statement.{statement}

@@ -10,7 +10,7 @@ use lib.Dec.{leb}
 use lib.ListN.{length, getD, set, length-set}
 use lib.Seq.{getD-set-same, getD-set-other}
 use borrow.Author.Needs.{needs}
-use Rattle.ring.specs.Grid.{pick}
+use Rattle.ring.specs.Choices.{pick}
 use Rattle.districts.specs.Lists.{firstPlace}
 use Rattle.room.specs.Writing.{Lowered}
 use Rattle.room.proofs.removing.lower.Statement.{statement}

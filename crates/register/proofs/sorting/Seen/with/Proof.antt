@@ -5,8 +5,7 @@ use mathlib.Core.Path.{_≡_, sym, ap, _∙_}
 use mathlib.Core.Bool.{true, false, _&&_}
 use lib.Dec.{leb}
 use borrow.Author.Tests.{le-leb, lt-leb, not-true, not-false}
-use Rattle.ring.specs.Grid.{pick}
-use Rattle.ring.specs.Table.{count}
+use Rattle.ring.specs.Choices.{pick, count}
 use borrow.Author.Needs.{needs}
 use Rattle.register.proofs.sorting.Seen.with.Statement.{statement}
 use Rattle.register.proofs.sorting.Seen.with.Tie as tie

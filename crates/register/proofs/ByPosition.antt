@@ -4,19 +4,20 @@ use mathlib.Core.Path.{_≡_, refl, _∙_}
 use mathlib.Core.Bool.{Bool, true, false, not, _&&_, _||_}
 use mathlib.Core.List.{List, [], _∷_}
 use lib.IntN.{ℤ}
-use Rattle.ring.specs.Grid.{pick, point, beyond}
-use Rattle.districts.specs.Register.{Register}
-use Rattle.districts.specs.Answers.{Answer, report}
-use Rattle.register.specs.Verdict.{Test, _if_, verdict}
-use Rattle.register.specs.Sorting.{inUse, belongsTo, given, assigned}
+use Rattle.ring.specs.Grid.{point, beyond}
+use Rattle.ring.specs.Choices.{pick}
+use Rattle.districts.specs.Register.{Register, inUse}
+use Rattle.districts.specs.Answers.{Answer, report, refused}
+use Rattle.refusals.specs.Verdicts.{Test, _if_, verdict}
+use Rattle.register.specs.Sorting.{belongsTo, given, assigned}
 use Rattle.fixes.specs.declared.Fix as Receivers
 use Rattle.fixes.specs.declared.Placed.{Placed}
 use Rattle.fixes.specs.declared.Placed.the-variants.{OnGrid, BeyondGrid, NotFinite}
 use Rattle.fixes.specs.Nearest.{finite}
 use Rattle.fixes.specs.Millimetres.{millimetres, placed}
-use Rattle.positions.specs.declared.Position.{Position}
-use Rattle.positions.specs.declared.Position.the-variants.{Grid, Fix, Missing}
-use Rattle.positions.specs.Placing.{isMissing, notFinite, eastOf, northOf, assignedAt, refusedAs}
+use Rattle.register.specs.declared.Position.{Position}
+use Rattle.register.specs.declared.Position.the-variants.{Grid, Fix, Missing}
+use Rattle.register.specs.Placing.{isMissing, notFinite, eastOf, northOf, assignedAt, refusedAs}
 
 -- behind refusals 1 and 2, what comes to the same answer comes to the same answer
 behind-two : (b c : Bool) (ts us : List Test) (a d : Answer) → given (verdict ts) a ≡ given (verdict us) d
@@ -31,17 +32,17 @@ abbrev own : Bool → Bool → Bool → List Test
 own missing infinite far = (19 if missing) ∷ (18 if infinite) ∷ (5 if far) ∷ []
 
 -- refused by the first that holds, or, with none of the first two, by the last alone
-first-19 : (b c : Bool) (a d : Answer) → given (verdict (own true b c)) a ≡ given (verdict ((19 if true) ∷ [])) d
+first-19 : (b c : Bool) (a : Answer) → given (verdict (own true b c)) a ≡ given (verdict []) (refused 19)
 unfolding verdict
-first-19 b c a d = refl
+first-19 b c a = refl
 
-first-18 : (c : Bool) (a d : Answer) → given (verdict (own false true c)) a ≡ given (verdict ((18 if true) ∷ [])) d
+first-18 : (c : Bool) (a : Answer) → given (verdict (own false true c)) a ≡ given (verdict []) (refused 18)
 unfolding verdict
-first-18 c a d = refl
+first-18 c a = refl
 
-first-5 : (a d : Answer) → given (verdict (own false false true)) a ≡ given (verdict ((5 if true) ∷ [])) d
+first-5 : (a : Answer) → given (verdict (own false false true)) a ≡ given (verdict []) (refused 5)
 unfolding verdict
-first-5 a d = refl
+first-5 a = refl
 
 only-5 : (c : Bool) (a : Answer) → given (verdict (own false false c)) a ≡ given (verdict ((5 if c) ∷ [])) a
 unfolding verdict
@@ -62,7 +63,7 @@ module _ (good : Bool) (g : Register) (r : ℕ) where
 
   pub missing-is : assignedAt good g r Missing ≡ refusedAs good g 19
   unfolding assignedAt
-  missing-is = behind-two _ _ _ _ _ _ (first-19 false _ _ _)
+  missing-is = behind-two _ _ _ _ _ _ (first-19 false _ _)
 
   -- what is answered to a fix, by where it was placed
   abbrev pub answerBy : Placed → Answer
@@ -74,8 +75,8 @@ module _ (good : Bool) (g : Register) (r : ℕ) where
       → given (verdict ((1 if not good) ∷ (2 if not (inUse (g .outline))) ∷ own false b (beyond x || beyond y))) (report r (belongsTo g (point x y)))
       ≡ answerBy (pick b NotFinite (pick c BeyondGrid (OnGrid x y)))
   unfolding assigned
-  fix-by x y true c e = behind-two _ _ _ _ _ _ (first-18 _ _ _)
-  fix-by x y false true e = behind-two _ _ _ _ _ _ ((λ i. given (verdict (own false false (e i))) (report r (belongsTo g (point x y)))) ∙ first-5 _ _)
+  fix-by x y true c e = behind-two _ _ _ _ _ _ (first-18 _ _)
+  fix-by x y false true e = behind-two _ _ _ _ _ _ ((λ i. given (verdict (own false false (e i))) (report r (belongsTo g (point x y)))) ∙ first-5 _)
   fix-by x y false false e = behind-two _ _ _ _ _ _ (only-5 (beyond x || beyond y) _)
 
   pub fix-is : (f : Receivers.Fix) → assignedAt good g r (Fix f) ≡ answerBy (placed (f .easting) (f .northing))

@@ -1,4 +1,4 @@
--- `positions::assign_fix` answers by where the fix was placed. Assumes nothing.
+-- `register::placing::assign_fix` answers by where the fix was placed. Assumes nothing.
 use mathlib.Core.Path.{_≡_, sym, ap, _∙_}
 use mathlib.Core.Bool.{Bool}
 use mir.Syntax.{w32}
@@ -9,14 +9,14 @@ use Rattle.districts.specs.Answers.{answerOf}
 use Rattle.districts.specs.Lists.{meaning}
 use Rattle.districts.specs.Register.{Register}
 use Rattle.districts.specs.WellFormed.{wellFormed}
 use Rattle.register.specs.Sorting.{assigned}
 use Rattle.fixes.specs.declared.Placed.{Placed}
 use Rattle.fixes.specs.declared.Placed.the-variants.{OnGrid, BeyondGrid, NotFinite}
-use Rattle.positions.specs.declared.Position.the-variants.{Fix}
-use Rattle.positions.specs.Placing.{assignedAt, refusedAs}
-use Rattle.positions.proofs.Answers.{answerBy, fix-is}
-use Rattle.positions.proofs.assign_fix.Statement.{statement}
-use Rattle.positions.proofs.assign_fix.Tie as tie
+use Rattle.register.specs.declared.Position.the-variants.{Fix}
+use Rattle.register.specs.Placing.{assignedAt, refusedAs}
+use Rattle.register.proofs.ByPosition.{answerBy, fix-is}
+use Rattle.register.proofs.placing.assign_fix.Statement.{statement}
+use Rattle.register.proofs.placing.assign_fix.Tie as tie
 
 abbrev lent : tie.Start → Register
 lent s = meaning (s .args .outline .now) (s .args .store .now) (s .args .runs .now)

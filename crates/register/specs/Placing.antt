@@ -1,17 +1,18 @@
--- Document 02, E10: a report's position is one of three, and where a report with it belongs. Assumes nothing.
+-- A report's position is one of three, and where a report with it belongs. Assumes nothing.
 use Prim.Native.Nat.{ℕ}
 use mathlib.Core.Bool.{Bool, true, false, not, _&&_, _||_}
-use mathlib.Core.List.{List, [], _∷_}
+use mathlib.Core.List.{List, _∷_, _++_}
 use lib.IntN.{ℤ, pos}
-use Rattle.ring.specs.Grid.{point, beyond}
+use Rattle.ring.specs.Grid.{point}
 use Rattle.districts.specs.Register.{Register}
+use Rattle.districts.specs.Lent.{beginning}
 use Rattle.districts.specs.Answers.{Answer, report, refused}
-use Rattle.register.specs.Verdict.{Test, _if_, verdict}
-use Rattle.register.specs.Sorting.{inUse, belongsTo, given}
+use Rattle.refusals.specs.Verdicts.{Test, _if_, verdict}
+use Rattle.register.specs.Sorting.{pointTests, belongsTo, given}
 use Rattle.fixes.specs.Nearest.{finite}
 use Rattle.fixes.specs.Millimetres.{millimetres}
-use Rattle.positions.specs.declared.Position.{Position}
-use Rattle.positions.specs.declared.Position.the-variants.{Grid, Fix, Missing}
+use Rattle.register.specs.declared.Position.{Position}
+use Rattle.register.specs.declared.Position.the-variants.{Grid, Fix, Missing}
 
 abbrev pub isMissing : Position → Bool
 isMissing (Grid x y) = false
@@ -37,8 +38,7 @@ northOf Missing = pos 0
 
 -- refusals 1, 2, 19, 18, 5 in this order
 abbrev pub placeTests : Bool → Register → Position → List Test
-placeTests wellFormed g p =
-    (1 if not wellFormed) ∷ (2 if not (inUse (g .outline))) ∷ (19 if isMissing p) ∷ (18 if notFinite p) ∷ (5 if (beyond (eastOf p) || beyond (northOf p))) ∷ []
+placeTests wellFormed g p = beginning wellFormed g ++ (19 if isMissing p) ∷ (18 if notFinite p) ∷ pointTests (eastOf p) (northOf p)
 
 -- the answer to report r with position p
 unfoldable pub assignedAt : Bool → Register → ℕ → Position → Answer
@@ -46,6 +46,6 @@ assignedAt wellFormed g r p = given (verdict (placeTests wellFormed g p)) (repor
 
 -- ---- inside the crate. No public promise cites it.
 
--- refusals 1, 2 and the given one, in this order
+-- refusals 1 and 2, then the given one
 abbrev pub refusedAs : Bool → Register → ℕ → Answer
-refusedAs wellFormed g n = given (verdict ((1 if not wellFormed) ∷ (2 if not (inUse (g .outline))) ∷ (n if true) ∷ [])) (refused n)
+refusedAs wellFormed g n = given (verdict (beginning wellFormed g)) (refused n)

@@ -1,4 +1,4 @@
--- `positions::assign_at` answers by the kind of position. Assumes nothing.
+-- `register::placing::assign_at` answers by the kind of position. Assumes nothing.
 use mathlib.Core.Path.{_≡_, sym, ap, _∙_}
 use mathlib.Core.Bool.{Bool}
 use mir.Syntax.{w32}
@@ -9,12 +9,12 @@ use Rattle.districts.specs.Answers.{answerOf}
 use Rattle.districts.specs.Lists.{meaning}
 use Rattle.districts.specs.Register.{Register}
 use Rattle.districts.specs.WellFormed.{wellFormed}
 use Rattle.register.specs.Sorting.{assigned}
-use Rattle.positions.specs.declared.Position.{Position}
-use Rattle.positions.specs.Placing.{assignedAt, refusedAs}
-use Rattle.positions.proofs.Answers.{grid-as-before, missing-is}
-use Rattle.positions.proofs.assign_at.Statement.{statement}
-use Rattle.positions.proofs.assign_at.Tie as tie
+use Rattle.register.specs.declared.Position.{Position}
+use Rattle.register.specs.Placing.{assignedAt, refusedAs}
+use Rattle.register.proofs.ByPosition.{grid-as-before, missing-is}
+use Rattle.register.proofs.placing.assign_at.Statement.{statement}
+use Rattle.register.proofs.placing.assign_at.Tie as tie
 
 abbrev lent : tie.Start → Register
 lent s = meaning (s .args .outline .now) (s .args .store .now) (s .args .runs .now)

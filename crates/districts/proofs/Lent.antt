@@ -1,5 +1,5 @@
 -- What a well-formed register tells the calls. Assumes nothing.
-use Prim.Native.Nat.{ℕ, _+_, _≤_, _<_}
+use Prim.Native.Nat.{ℕ, _+_, _*_, _-_, _≤_, _<_}
 use native.Mathlib.Omega.{arith}
 use mathlib.Core.Path.{_≡_, refl, sym, ap, _∙_}
 use mathlib.Core.Bool.{Bool, true, false, not}
@@ -7,22 +7,24 @@ use mathlib.Core.List.{List}
 use mathlib.Core.Logic.{_⊎_, inl, inr}
 use lib.Dec.{eqb}
 use lib.IntN.{ℤ}
+use lib.ListN.{length, take, drop, length-take, length-drop}
 use Rattle.ring.specs.declared.Point.{Point}
-use Rattle.ring.specs.Grid.{pick, vertices}
-use Rattle.districts.specs.Register.{unused, ring}
-use Rattle.districts.specs.Lists.{outlineSize, firstPlace, size, part, held, district, meaning}
+use Rattle.ring.specs.Grid.{vertices}
+use Rattle.ring.specs.Walk.{OnGrid, Ready}
+use Rattle.ring.specs.Choices.{pick}
+use Rattle.districts.specs.Register.{unused, ring, inUse}
+use Rattle.districts.specs.Lists.{outlineSize, firstPlace, size, part, held, meaning}
 use Rattle.districts.specs.WellFormed.{total, counted, wellFormed}
 use Rattle.districts.proofs.Sound.{allowed-size, size-most, district-sized, total-most, right-counts, store-length, runs-length, run-inside, store-on-grid}
-use Rattle.districts.proofs.Meaning.{slot-is, part-on-grid}
-use Rattle.register.specs.Sorting.{rests, winds, ofSlot, onBorder, windsAbout, sortedBy, belongsTo, inUse}
-use Rattle.register.specs.Calls.{Room}
+use Rattle.districts.proofs.Meaning.{part-on-grid}
+use Rattle.districts.specs.Lent.{GoodRuns}
 
 module _ (outline store : List ℤ) (runs : List ℕ) (good : wellFormed outline store runs ≡ true) where
   counts : counted runs ≡ true
   counts = right-counts outline store runs good
 
-  pub room : Room store runs
-  room = record {
+  pub good-runs : GoodRuns store runs
+  good-runs = record {
     runs-length = runs-length outline store runs good;
     store-length = store-length outline store runs good;
     fits = fits;
@@ -40,13 +42,6 @@ module _ (outline store : List ℤ) (runs : List ℕ) (good : wellFormed outline
           say : (size runs d ≡ 0) ⊎ ((3 ≤ size runs d) × (size runs d ≤ 2048)) → 3 ≤ size runs d
           say (inl e) = absurd (omega arith)
           say (inr e) = e .0
-
-  -- sorting by the runs is sorting by the register that they mean
-  pub sorted-is : (R : Point) → sortedBy (λ d. ofSlot rests R (district store runs d)) (λ d. ofSlot winds R (district store runs d)) ≡ belongsTo (meaning outline store runs) R
-  unfolding belongsTo onBorder windsAbout
-  sorted-is R =
-      let slots = slot-is outline store runs (runs-length outline store runs good) in
-      λ i. sortedBy (λ d. ofSlot rests R (sym (slots d) i)) (λ d. ofSlot winds R (sym (slots d) i))
 
 -- a ring is held exactly if it has vertices
 pub held-in-use : (xs : List ℤ) (place n : ℕ) → inUse (held xs place n) ≡ not (eqb n 0)
@@ -67,3 +62,27 @@ no-outline outline store runs = ap not (outline-in-use outline store runs) ∙ t
     twice : (b : Bool) → not (not b) ≡ b
     twice true = refl
     twice false = refl
+
+-- ---- the run of a district: the part of the store that is handed to locating, and that locating may take it
+
+-- the part as the code cuts it
+pub cut : (xs : List ℤ) (f n : ℕ) → take (2 * f + 2 * n - 2 * f) (drop (2 * f) xs) ≡ part xs f n
+cut xs f n =
+    let e : 2 * f + 2 * n - 2 * f ≡ n + n = omega arith in
+    let d : 2 * f ≡ f + f = omega arith in
+    λ i. take (e i) (drop (d i) xs)
+
+pub part-length : (xs : List ℤ) (f n : ℕ) → f + n + (f + n) ≤ length xs → length (part xs f n) ≡ n + n
+part-length xs f n h = simp (length-take, length-drop) (omega arith)
+
+pub ready : (store : List ℤ) (runs : List ℕ) (r : Point) → GoodRuns store runs → (d : ℕ) → d < 64 → (size runs d ≡ 0 → ⊥) → OnGrid r → Ready (part store (firstPlace runs d) (size runs d)) (size runs d) r
+ready store runs r good d h k g =
+    let used : 0 < size runs d = omega arith in
+    let fits : firstPlace runs d + size runs d ≤ 2048 = good .fits d h used in
+    record {
+      even = part-length store (firstPlace runs d) (size runs d) (omega (arith, good .store-length));
+      least = good .least d h used;
+      most = good .most d h;
+      grid = good .grid d h used;
+      point = g;
+    }

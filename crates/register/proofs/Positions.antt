@@ -13,12 +13,12 @@ use Rattle.ring.specs.Known.{square}
 use Rattle.districts.specs.Counts.{sumTo, listTo}
 use Rattle.districts.specs.Register.{Register, unused}
 use Rattle.districts.specs.Answers.{Answer, report, refused, border, one, none}
-use Rattle.register.specs.Verdict.{verdict}
+use Rattle.refusals.specs.Verdicts.{verdict}
 use Rattle.register.specs.Sorting.{onBorder, windsAbout, belongsTo}
 use Rattle.register.specs.Founding.{founded}
-use Rattle.positions.specs.declared.Position.{Position}
-use Rattle.positions.specs.declared.Position.the-variants.{Grid, Fix, Missing}
-use Rattle.positions.specs.Placing.{assignedAt}
+use Rattle.register.specs.declared.Position.{Position}
+use Rattle.register.specs.declared.Position.the-variants.{Grid, Fix, Missing}
+use Rattle.register.specs.Placing.{assignedAt}
 
 -- 1.953125 and 3.90625 millimetres, 2 ^ 20 metres, and the double 2 ^ 1000
 abbrev two : Float
