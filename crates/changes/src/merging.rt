@@ -33,7 +33,7 @@ fn join(
     let first = room::around(a + k, n);
     room::remove(store, runs, kept);
     room::remove(store, runs, gone);
-    room::add_two(
+    room::add_two_runs(
         store,
         runs,
         kept,
@@ -65,8 +65,8 @@ fn perform(
 {
     let mut ring = [0i32; districts::STORE_LENGTH];
     let mut other = [0i32; districts::STORE_LENGTH];
-    let many = room::read(&mut ring, store, runs, kept);
-    let more = room::read(&mut other, store, runs, gone);
+    let many = room::copy_ring(&mut ring, store, runs, kept);
+    let more = room::copy_ring(&mut other, store, runs, gone);
     join(
         store,
         runs,

@@ -34,8 +34,8 @@ fn divide(
     let one = 1 + judging::steps(n, i, j);
     let two = 1 + judging::steps(n, j, i);
     room::remove(store, runs, d);
-    room::add_one(store, runs, d, ring, n, i, one, path, k);
-    room::add_two(store, runs, e, ring, n, j, two, path, k, 0, k);
+    room::add_run_and_path(store, runs, d, ring, n, i, one, path, k);
+    room::add_two_runs(store, runs, e, ring, n, j, two, path, k, 0, k);
 }
 
 // The district's ring is read before its room is closed.
@@ -56,7 +56,7 @@ fn perform(
     ensures { λ r. ⌜ (r ≡ Done e) × Divided (now (store .entry)) (now (runs .entry)) d e (pieceOne (vertices (part (now (store .entry)) (firstPlace (now (runs .entry)) d) (sizeOf (now (runs .entry)) d))) i j (vertices (now (path .entry)))) (pieceTwo (vertices (part (now (store .entry)) (firstPlace (now (runs .entry)) d) (sizeOf (now (runs .entry)) d))) i j (vertices (now (path .entry)))) (now (store .exit)) (now (runs .exit)) ⌝ }
 {
     let mut ring = [0i32; districts::STORE_LENGTH];
-    let many = room::read(&mut ring, store, runs, d);
+    let many = room::copy_ring(&mut ring, store, runs, d);
     divide(
         store,
         runs,

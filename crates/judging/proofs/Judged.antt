@@ -13,6 +13,7 @@ use Rattle.ring.specs.Grid.{vertices, someBeyond}
 use Rattle.ring.specs.Locate.{lowest}
 use Rattle.ring.proofs.Vertices.{length-vertices}
 use Rattle.districts.specs.Register.{slot, inUse, verticesOf}
+use Rattle.districts.specs.Lent.{beginning}
 use Rattle.districts.specs.Lists.{firstPlace, size, part, meaning}
 use Rattle.districts.specs.WellFormed.{total, wellFormed}
 use Rattle.districts.proofs.Sums.{sum-same}
@@ -21,7 +22,7 @@ use Rattle.refusals.specs.Verdicts.{_if_}
 use Rattle.districts.proofs.Lent.{part-length, held-in-use}
 use Rattle.room.specs.Runs.{run, steps}
 use Rattle.judging.specs.Splitting.{pieceOne, pieceTwo, lowestUnused, vertexCount, splitTests}
-use Rattle.judging.specs.Judging.{lowestFree, cutTests}
+use Rattle.judging.specs.Judging.{lowestFree, districtTests}
 use Rattle.room.proofs.Forms.{Sound, sound}
 use Rattle.room.proofs.Written.{run-length}
 
@@ -97,12 +98,10 @@ module _ (outline store : List ℤ) (runs : List ℕ) (good : wellFormed outline
     pub two-long : length (pieceTwo (ringOf d) i j (vertices path)) ≡ suc (steps (size runs d) j i) + length path / 2
     two-long = piece j i (vertices path) (vertices-half path)
 
-    pub tests-are : (b : Bool) → splitTests b (meaning outline store runs) d i j path
-        ≡ ((1 if not b) ∷ (2 if not (inUse (meaning outline store runs .outline))) ∷ (6 if not (inUse (slot (meaning outline store runs) d))) ∷ cutTests (size runs d) (total runs) (lowestFree runs) i j path)
+    pub tests-are : (b : Bool) → splitTests b (meaning outline store runs) d i j path ≡ beginning b (meaning outline store runs) ++ districtTests runs d i j path
     tests-are b = λ t.
-        (1 if not b)
-        ∷ (2 if not (inUse (meaning outline store runs .outline)))
-        ∷ (6 if not (inUse (slot (meaning outline store runs) d)))
+        beginning b (meaning outline store runs)
+        ++ (6 if unused-is d t)
         ∷ (8 if (leb (length-of d t) i || leb (length-of d t) j) || eqb i j)
         ∷ (4 if eqb (length path % 2) 1)
         ∷ (5 if someBeyond path)

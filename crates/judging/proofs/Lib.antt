@@ -1,5 +1,5 @@
 pub mod Sums
-pub mod Tables
 pub mod Judged
 pub mod Matched
 pub mod Told
+pub mod Begun

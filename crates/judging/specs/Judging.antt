@@ -11,6 +11,7 @@ use Rattle.ring.specs.Grid.{someBeyond}
 use Rattle.ring.specs.Locate.{lowest}
 use Rattle.districts.specs.Register.{Slot, inUse, verticesOf}
 use Rattle.districts.specs.Lists.{size}
+use Rattle.districts.specs.WellFormed.{total}
 use Rattle.refusals.specs.Verdicts.{Test, _if_}
 use Rattle.room.specs.Runs.{steps}
 use Rattle.judging.specs.Merging.{matches, merged}
@@ -20,8 +21,8 @@ abbrev pub lowestFree : List ℕ → ℕ
 lowestFree runs = lowest (λ d. eqb (size runs d) 0) 64 0
 
 -- refusals 9, 11, 12, of a ring of n vertices, `all` vertices in all and `free` the lowest unused number
-abbrev pub roomTests : ℕ → ℕ → ℕ → ℕ → ℕ → List ℤ → List Test
-roomTests n all free i j path =
+abbrev pub pieceTests : ℕ → ℕ → ℕ → ℕ → ℕ → List ℤ → List Test
+pieceTests n all free i j path =
     (9 if ltb (suc (steps n i j) + length path / 2) 3 || ltb (suc (steps n j i) + length path / 2) 3)
     ∷ (11 if leb 64 free)
     ∷ (12 if ltb 2048 (all + 2 + length path))
@@ -33,7 +34,11 @@ cutTests n all free i j path =
     (8 if (leb n i || leb n j) || eqb i j)
     ∷ (4 if eqb (length path % 2) 1)
     ∷ (5 if someBeyond path)
-    ∷ roomTests n all free i j path
+    ∷ pieceTests n all free i j path
+
+-- refusal 6, of the number of a district, then those
+abbrev pub districtTests : List ℕ → ℕ → ℕ → ℕ → List ℤ → List Test
+districtTests runs d i j path = (6 if eqb (size runs d) 0) ∷ cutTests (size runs d) (total runs) (lowestFree runs) i j path
 
 -- refusals 8, 10, 9, of two rings
 abbrev pub borderTests : List Point → ℕ → List Point → ℕ → ℕ → List Test

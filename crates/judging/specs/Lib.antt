@@ -1,4 +1,3 @@
 pub mod Splitting
 pub mod Merging
 pub mod Judging
-pub mod Answers

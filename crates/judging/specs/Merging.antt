@@ -8,6 +8,7 @@ use Rattle.ring.specs.declared.Point.{Point}
 use Rattle.ring.specs.Rings.{at}
 use Rattle.ring.specs.Segment.{same}
 use Rattle.districts.specs.Counts.{allTo}
+use Rattle.districts.specs.Lent.{beginning}
 use Rattle.districts.specs.Register.{Register, slot, inUse, verticesOf}
 use Rattle.refusals.specs.Verdicts.{Test, _if_}
 use Rattle.room.specs.Runs.{run}
@@ -23,9 +24,8 @@ merged A a B b k = run A (a + k) (suc (length A - k)) ++ run B (suc b) (length B
 -- refusals 1, 2, 6, 7, 8, 10, 9 in this order
 abbrev pub mergeTests : Bool → Register → ℕ → ℕ → ℕ → ℕ → ℕ → List Test
 mergeTests wellFormed g A a B b k =
-    (1 if not wellFormed)
-    ∷ (2 if not (inUse (g .outline)))
-    ∷ (6 if not (inUse (slot g A)) || not (inUse (slot g B)))
+    beginning wellFormed g
+    ++ (6 if not (inUse (slot g A)) || not (inUse (slot g B)))
     ∷ (7 if eqb A B)
     ∷ (8 if leb (length P) a || leb (length Q) b)
     ∷ (10 if (eqb k 0 || (leb (length P) k || leb (length Q) k)) || not (matches P a Q b k))

@@ -9,6 +9,7 @@ use Rattle.ring.specs.declared.Point.{Point}
 use Rattle.ring.specs.Grid.{vertices, someBeyond}
 use Rattle.ring.specs.Locate.{lowest}
 use Rattle.districts.specs.Counts.{sumTo}
+use Rattle.districts.specs.Lent.{beginning}
 use Rattle.districts.specs.Register.{Register, numbers, slot, inUse, verticesOf}
 use Rattle.refusals.specs.Verdicts.{Test, _if_}
 use Rattle.room.specs.Runs.{run, steps}
@@ -32,9 +33,8 @@ vertexCount g = sumTo numbers (λ d. length (verticesOf (slot g d)))
 -- refusals 1, 2, 6, 8, 4 (path of odd length only), 5, 9, 11, 12 in this order
 abbrev pub splitTests : Bool → Register → ℕ → ℕ → ℕ → List ℤ → List Test
 splitTests wellFormed g d i j path =
-    (1 if not wellFormed)
-    ∷ (2 if not (inUse (g .outline)))
-    ∷ (6 if not (inUse (slot g d)))
+    beginning wellFormed g
+    ++ (6 if not (inUse (slot g d)))
     ∷ (8 if (leb n i || leb n j) || eqb i j)
     ∷ (4 if eqb (length path % 2) 1)
     ∷ (5 if someBeyond path)

@@ -1,7 +1,7 @@
 // Whether a merge is refused, and why: above all whether the two rings match along the border.
-use crate::Changed;
-use crate::Refusal;
 use crate::splits;
+use refusals::Refusal;
+use refusals::Verdict;
 ghost use mathlib.Core.Path.{_≡_};
 ghost use Prim.Native.Nat.{_+_, _-_, _<_};
 ghost use lib.ListN.{length};
@@ -10,11 +10,10 @@ ghost use Rattle.ring.specs.Rings.{at};
 ghost use Rattle.ring.specs.Segment.{same as samePoint};
 ghost use Rattle.districts.specs.Lists.{district, meaning};
 ghost use Rattle.districts.specs.WellFormed.{wellFormed};
-ghost use Rattle.refusals.specs.Verdicts.{verdict};
+ghost use Rattle.refusals.specs.Verdicts.{verdict, verdictOf};
 ghost use Rattle.districts.specs.Lent.{GoodRuns};
 ghost use Rattle.judging.specs.Merging.{matches as matchAll, mergeTests};
 ghost use Rattle.judging.specs.Judging.{borderTests, pairTests};
-ghost use Rattle.changes.specs.Answers.{answerOf, answers};
 use ring::Point;
 
 fn same(p: Point, q: Point) -> bool
@@ -50,7 +49,8 @@ fn matches(ring: &[i32], n: usize, a: usize, other: &[i32], m: usize, b: usize, 
     true
 }
 
-fn border(
+// Refusals 8, 10 and 9.
+fn judge_border(
     ring: &[i32],
     n: usize,
     a: usize,
@@ -58,28 +58,27 @@ fn border(
     m: usize,
     b: usize,
     k: usize,
-    kept: usize,
-) -> Changed
+) -> Verdict
     requires { ⌜ (length (now ring) ≡ n + n) × (length (now other) ≡ m + m) ⌝ }
-    ensures { λ r. ⌜ answerOf r ≡ answers (verdict (borderTests (vertices (now (ring .entry))) a (vertices (now (other .entry))) b k)) kept ⌝ }
+    ensures { λ r. ⌜ verdictOf r ≡ verdict (borderTests (vertices (now (ring .entry))) a (vertices (now (other .entry))) b k) ⌝ }
 {
     if (n <= a) | (m <= b) {
-        return Changed::Refused(Refusal::BadIndex);
+        return Verdict::Refused(Refusal::BadIndex);
     }
     if (k == 0) | ((n <= k) | (m <= k)) {
-        return Changed::Refused(Refusal::NoMatch);
+        return Verdict::Refused(Refusal::NoMatch);
     }
     if !matches(ring, n, a, other, m, b, k) {
-        return Changed::Refused(Refusal::NoMatch);
+        return Verdict::Refused(Refusal::NoMatch);
     }
-    if n - k + (m - k) < splits::LEAST_VERTICES {
-        return Changed::Refused(Refusal::TooFew);
+    if n - k + (m - k) < ring::FEWEST_VERTICES {
+        return Verdict::Refused(Refusal::TooFew);
     }
-    Changed::Done(kept)
+    Verdict::Accepted
 }
 
-// The rings are the parts of the store at the two districts' offsets.
-fn pair(
+// Refusals 6 and 7, then those; the rings are the parts of the store at the two districts' offsets.
+fn judge_pair(
     store: &[i32],
     runs: &[u32],
     kept: usize,
@@ -87,15 +86,15 @@ fn pair(
     gone: usize,
     b: usize,
     k: usize,
-) -> Changed
-    requires { ⌜ Room (now store) (now runs) ⌝ }
-    ensures { λ r. ⌜ answerOf r ≡ answers (verdict (pairTests (district (now (store .entry)) (now (runs .entry)) kept) (district (now (store .entry)) (now (runs .entry)) gone) kept a gone b k)) kept ⌝ }
+) -> Verdict
+    requires { ⌜ GoodRuns (now store) (now runs) ⌝ }
+    ensures { λ r. ⌜ verdictOf r ≡ verdict (pairTests (district (now (store .entry)) (now (runs .entry)) kept) (district (now (store .entry)) (now (runs .entry)) gone) kept a gone b k) ⌝ }
 {
     if !splits::in_use(runs, kept) | !splits::in_use(runs, gone) {
-        return Changed::Refused(Refusal::BadNumber);
+        return Verdict::Refused(Refusal::BadNumber);
     }
     if kept == gone {
-        return Changed::Refused(Refusal::SameDistrict);
+        return Verdict::Refused(Refusal::SameDistrict);
     }
     let n = districts::size(runs, kept);
     let m = districts::size(runs, gone);
@@ -103,10 +102,10 @@ fn pair(
     let after = 2 * districts::first_place(runs, gone);
     let to = from + 2 * n;
     let end = after + 2 * m;
-    border(&store[from..to], n, a, &store[after..end], m, b, k, kept)
+    judge_border(&store[from..to], n, a, &store[after..end], m, b, k)
 }
 
-// Whether the merge is refused, and why; otherwise the number that is kept.
+// Whether the merge is refused, and why.
 pub fn merge(
     outline: &[i32],
     store: &[i32],
@@ -116,14 +115,11 @@ pub fn merge(
     gone: usize,
     b: usize,
     k: usize,
-) -> Changed
-    ensures { λ r. ⌜ answerOf r ≡ answers (verdict (mergeTests (wellFormed (now (outline .entry)) (now (store .entry)) (now (runs .entry))) (meaning (now (outline .entry)) (now (store .entry)) (now (runs .entry))) kept a gone b k)) kept ⌝ }
+) -> Verdict
+    ensures { λ r. ⌜ verdictOf r ≡ verdict (mergeTests (wellFormed (now (outline .entry)) (now (store .entry)) (now (runs .entry))) (meaning (now (outline .entry)) (now (store .entry)) (now (runs .entry))) kept a gone b k) ⌝ }
 {
-    if !districts::well_formed(outline, store, runs) {
-        return Changed::Refused(Refusal::NotWellFormed);
+    match districts::usable(outline, store, runs) {
+        Verdict::Accepted => judge_pair(store, runs, kept, a, gone, b, k),
+        Verdict::Refused(r) => Verdict::Refused(r),
     }
-    if districts::outline_size(runs) == 0 {
-        return Changed::Refused(Refusal::NoOutline);
-    }
-    pair(store, runs, kept, a, gone, b, k)
 }

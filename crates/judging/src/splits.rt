@@ -1,8 +1,9 @@
 // Whether a split is refused, and why: document 01's tests in its order, each asked once the earlier ones have passed.
-use crate::Changed;
-use crate::Refusal;
-use districts::MOST_VERTICES;
 use districts::NUMBERS;
+use refusals::Refusal;
+use refusals::Verdict;
+use ring::FEWEST_VERTICES;
+use ring::MOST_VERTICES;
 ghost use mathlib.Core.Path.{_≡_};
 ghost use mathlib.Core.Bool.{not, true};
 ghost use Prim.Native.Nat.{_+_, _<_, _≤_};
@@ -10,14 +11,10 @@ ghost use lib.Dec.{eqb};
 ghost use lib.ListN.{length};
 ghost use Rattle.districts.specs.Lists.{size as sizeOf, meaning};
 ghost use Rattle.districts.specs.WellFormed.{total as totalOf, wellFormed};
-ghost use Rattle.refusals.specs.Verdicts.{verdict};
+ghost use Rattle.refusals.specs.Verdicts.{verdict, verdictOf};
 ghost use Rattle.room.specs.Runs.{steps as stepsOf};
-ghost use Rattle.judging.specs.Splitting.{lowestUnused, splitTests};
-ghost use Rattle.judging.specs.Judging.{lowestFree, roomTests, cutTests};
-ghost use Rattle.changes.specs.Answers.{answerOf, answers};
-
-// The fewest vertices of a ring.
-pub const LEAST_VERTICES: usize = 3;
+ghost use Rattle.judging.specs.Splitting.{splitTests};
+ghost use Rattle.judging.specs.Judging.{lowestFree, pieceTests, cutTests, districtTests};
 
 // The two vertices at which a split begins and ends: both pieces have them.
 const ENDS: usize = 2;
@@ -32,7 +29,7 @@ pub fn in_use(runs: &[u32], d: usize) -> bool
     false
 }
 
-fn lowest_unused(runs: &[u32]) -> usize
+pub fn lowest_unused(runs: &[u32]) -> usize
     requires { ⌜ length (now runs) ≡ 129 ⌝ }
     ensures { λ r. ⌜ (r ≡ lowestFree (now (runs .entry))) × (r ≤ 64) ⌝ }
 {
@@ -59,48 +56,62 @@ pub fn steps(n: usize, i: usize, j: usize) -> usize
     j + n - i
 }
 
-fn room(runs: &[u32], n: usize, i: usize, j: usize, path: &[i32]) -> Changed
+// Refusals 9, 11 and 12.
+fn judge_pieces(runs: &[u32], n: usize, i: usize, j: usize, path: &[i32]) -> Verdict
     requires { ⌜ length (now runs) ≡ 129 ⌝ }
     requires { ⌜ (n ≤ 2048) × (i < n) × (j < n) ⌝ }
     requires { ⌜ totalOf (now runs) ≤ 2048 ⌝ }
-    ensures { λ r. ⌜ answerOf r ≡ answers (verdict (roomTests n (totalOf (now (runs .entry))) (lowestFree (now (runs .entry))) i j (now (path .entry)))) (lowestFree (now (runs .entry))) ⌝ }
+    ensures { λ r. ⌜ verdictOf r ≡ verdict (pieceTests n (totalOf (now (runs .entry))) (lowestFree (now (runs .entry))) i j (now (path .entry))) ⌝ }
 {
     let k = path.len() / 2;
     let one = 1 + steps(n, i, j) + k;
     let two = 1 + steps(n, j, i) + k;
-    if (one < LEAST_VERTICES) | (two < LEAST_VERTICES) {
-        return Changed::Refused(Refusal::TooFew);
+    if (one < FEWEST_VERTICES) | (two < FEWEST_VERTICES) {
+        return Verdict::Refused(Refusal::TooFew);
     }
     let free = lowest_unused(runs);
     if NUMBERS <= free {
-        return Changed::Refused(Refusal::NumbersInUse);
+        return Verdict::Refused(Refusal::NumbersInUse);
     }
     let all = districts::total(runs);
     if MOST_VERTICES < all + ENDS + path.len() {
-        return Changed::Refused(Refusal::NoRoom);
+        return Verdict::Refused(Refusal::NoRoom);
     }
-    Changed::Done(free)
+    Verdict::Accepted
 }
 
-fn cut(runs: &[u32], n: usize, i: usize, j: usize, path: &[i32]) -> Changed
+// Refusals 8, 4 and 5, then those.
+fn judge_cut(runs: &[u32], n: usize, i: usize, j: usize, path: &[i32]) -> Verdict
     requires { ⌜ length (now runs) ≡ 129 ⌝ }
     requires { ⌜ n ≤ 2048 ⌝ }
     requires { ⌜ totalOf (now runs) ≤ 2048 ⌝ }
-    ensures { λ r. ⌜ answerOf r ≡ answers (verdict (cutTests n (totalOf (now (runs .entry))) (lowestFree (now (runs .entry))) i j (now (path .entry)))) (lowestFree (now (runs .entry))) ⌝ }
+    ensures { λ r. ⌜ verdictOf r ≡ verdict (cutTests n (totalOf (now (runs .entry))) (lowestFree (now (runs .entry))) i j (now (path .entry))) ⌝ }
 {
     if ((n <= i) | (n <= j)) | (i == j) {
-        return Changed::Refused(Refusal::BadIndex);
+        return Verdict::Refused(Refusal::BadIndex);
     }
     if path.len() % 2 == 1 {
-        return Changed::Refused(Refusal::OddPath);
+        return Verdict::Refused(Refusal::NoRing);
     }
     if ring::some_beyond(path) {
-        return Changed::Refused(Refusal::BeyondGrid);
+        return Verdict::Refused(Refusal::BeyondGrid);
     }
-    room(runs, n, i, j, path)
+    judge_pieces(runs, n, i, j, path)
 }
 
-// Whether the split is refused, and why; otherwise the number that the new piece takes.
+// Refusal 6, then those.
+fn judge_district(runs: &[u32], d: usize, i: usize, j: usize, path: &[i32]) -> Verdict
+    requires { ⌜ length (now runs) ≡ 129 ⌝ }
+    requires { ⌜ totalOf (now runs) ≤ 2048 ⌝ }
+    ensures { λ r. ⌜ verdictOf r ≡ verdict (districtTests (now (runs .entry)) d i j (now (path .entry))) ⌝ }
+{
+    if !in_use(runs, d) {
+        return Verdict::Refused(Refusal::BadNumber);
+    }
+    judge_cut(runs, districts::size(runs, d), i, j, path)
+}
+
+// Whether the split is refused, and why.
 pub fn split(
     outline: &[i32],
     store: &[i32],
@@ -109,17 +120,11 @@ pub fn split(
     i: usize,
     j: usize,
     path: &[i32],
-) -> Changed
-    ensures { λ r. ⌜ answerOf r ≡ answers (verdict (splitTests (wellFormed (now (outline .entry)) (now (store .entry)) (now (runs .entry))) (meaning (now (outline .entry)) (now (store .entry)) (now (runs .entry))) d i j (now (path .entry)))) (lowestUnused (meaning (now (outline .entry)) (now (store .entry)) (now (runs .entry)))) ⌝ }
+) -> Verdict
+    ensures { λ r. ⌜ verdictOf r ≡ verdict (splitTests (wellFormed (now (outline .entry)) (now (store .entry)) (now (runs .entry))) (meaning (now (outline .entry)) (now (store .entry)) (now (runs .entry))) d i j (now (path .entry))) ⌝ }
 {
-    if !districts::well_formed(outline, store, runs) {
-        return Changed::Refused(Refusal::NotWellFormed);
+    match districts::usable(outline, store, runs) {
+        Verdict::Accepted => judge_district(runs, d, i, j, path),
+        Verdict::Refused(r) => Verdict::Refused(r),
     }
-    if districts::outline_size(runs) == 0 {
-        return Changed::Refused(Refusal::NoOutline);
-    }
-    if !in_use(runs, d) {
-        return Changed::Refused(Refusal::BadNumber);
-    }
-    cut(runs, districts::size(runs, d), i, j, path)
 }

@@ -18,6 +18,13 @@ pub passed-all : verdict [] ≡ accept
 unfolding verdict
 passed-all = refl
 
+-- the same, as a chain of tests is asked: refused by this test, or by the rest behind it
+pub refused-by : (n : ℕ) (b : Bool) (ts : List Test) → b ≡ true → refuse n ≡ verdict ((n if b) ∷ ts)
+refused-by n b ts e = sym (stops-at n b ts e)
+
+pub left-to : (n : ℕ) (b : Bool) (ts : List Test) {v : Verdict} → b ≡ false → v ≡ verdict ts → v ≡ verdict ((n if b) ∷ ts)
+left-to n b ts e f = f ∙ sym (passes n b ts e)
+
 -- what an acceptance tells: the first condition does not hold, and the others are accepted
 pub accepted : (n : ℕ) (b : Bool) (ts : List Test) → verdict ((n if b) ∷ ts) ≡ accept → (b ≡ false) × (verdict ts ≡ accept)
 unfolding verdict

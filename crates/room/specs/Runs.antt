@@ -3,7 +3,6 @@ use Prim.Native.Nat.{ℕ, zero, suc, _+_, _-_, _%_}
 use mathlib.Core.List.{List, [], _∷_}
 use Rattle.ring.specs.declared.Point.{Point}
 use Rattle.ring.specs.Rings.{at}
-use Rattle.districts.specs.Register.{Slot, unused, ring}
 
 -- the c vertices Pi, P(i+1), .. going forward
 unfoldable pub run : List Point → ℕ → ℕ → List Point
@@ -13,8 +12,3 @@ run P i (suc c) = at P i ∷ run P (suc i) c
 -- how many edges lead from vertex i forward to vertex j, of a ring of n
 abbrev pub steps : ℕ → ℕ → ℕ → ℕ
 steps n i j = (j + n - i) % n
-
--- the vertices of a slot; an unused one has none
-abbrev pub verticesOf : Slot → List Point
-verticesOf unused = []
-verticesOf (ring P) = P

@@ -22,8 +22,8 @@ fn enter(runs: &mut [u32], e: usize, place: usize, m: usize)
     runs[SIZES + e] = m as u32;
 }
 
-// Number e takes piece one, written behind all rings.
-pub fn add_one(
+// Number e takes a ring of a run and then a path backwards, written behind all rings.
+pub fn add_run_and_path(
     store: &mut [i32],
     runs: &mut [u32],
     e: usize,
@@ -43,12 +43,12 @@ pub fn add_one(
 {
     let free = districts::total(runs);
     let from = 2 * free;
-    pieces::write_one(&mut store[from..], ring, n, i, c, path, k);
+    pieces::write_run_and_path(&mut store[from..], ring, n, i, c, path, k);
     enter(runs, e, free, c + k);
 }
 
 // Number e takes a ring of two runs, written behind all rings.
-pub fn add_two(
+pub fn add_two_runs(
     store: &mut [i32],
     runs: &mut [u32],
     e: usize,
@@ -71,6 +71,6 @@ pub fn add_two(
 {
     let free = districts::total(runs);
     let from = 2 * free;
-    pieces::write_two(&mut store[from..], ring, n, i, c, other, m, j, k);
+    pieces::write_two_runs(&mut store[from..], ring, n, i, c, other, m, j, k);
     enter(runs, e, free, c + k);
 }

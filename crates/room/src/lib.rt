@@ -4,8 +4,8 @@ mod adding;
 mod pieces;
 mod removing;
 
-pub use adding::add_one;
-pub use adding::add_two;
+pub use adding::add_run_and_path;
+pub use adding::add_two_runs;
 pub use pieces::around;
-pub use pieces::read;
+pub use pieces::copy_ring;
 pub use removing::remove;

@@ -48,7 +48,7 @@ pub fn write_run(to: &mut [i32], ring: &[i32], n: usize, i: usize, c: usize)
 }
 
 // Writes the ring of number d to the first places of a list, and answers how many numbers that are.
-pub fn read(to: &mut [i32], store: &[i32], runs: &[u32], d: usize) -> usize
+pub fn copy_ring(to: &mut [i32], store: &[i32], runs: &[u32], d: usize) -> usize
     requires { ⌜ (length (now to) ≡ 4096) × (length (now store) ≡ 4096) × (length (now runs) ≡ 129) × (d < 64) ⌝ }
     requires { ⌜ firstPlace (now runs) d + sizeOf (now runs) d ≤ 2048 ⌝ }
     ensures { λ r. ⌜ (r ≡ sizeOf (now (runs .entry)) d + sizeOf (now (runs .entry)) d) × (now (to .exit) ≡ written (part (now (store .entry)) (firstPlace (now (runs .entry)) d) (sizeOf (now (runs .entry)) d)) (now (to .entry))) ⌝ }
@@ -74,8 +74,8 @@ fn write_back(to: &mut [i32], path: &[i32], k: usize)
     }
 }
 
-// Piece one: the c vertices of a ring of n from vertex i on, then a path of k points from its last to its first.
-pub fn write_one(to: &mut [i32], ring: &[i32], n: usize, i: usize, c: usize, path: &[i32], k: usize)
+// The c vertices of a ring of n from vertex i on, then a path of k points from its last to its first.
+pub fn write_run_and_path(to: &mut [i32], ring: &[i32], n: usize, i: usize, c: usize, path: &[i32], k: usize)
     requires { ⌜ length (now ring) ≡ n + n ⌝ }
     requires { ⌜ i ≤ n ⌝ }
     requires { ⌜ c ≤ n ⌝ }
@@ -89,7 +89,7 @@ pub fn write_one(to: &mut [i32], ring: &[i32], n: usize, i: usize, c: usize, pat
 }
 
 // Two runs, one after the other: c vertices of a ring of n from vertex i on, then k of a ring of m from vertex j on.
-pub fn write_two(
+pub fn write_two_runs(
     to: &mut [i32],
     ring: &[i32],
     n: usize,

@@ -30,23 +30,23 @@ remove-requires-2 c κs =
     let all = first-total (a .store .now) (a .runs .now) (a .kept) (a .gone) p _ _ l in
     (l .long-store, (l .long-runs, (omega (arith, p .first, p .second), (omega (arith, inside), omega (arith, all, p .most)))))
 
-sub-add-two : tie.Need-sub-add-two
-sub-add-two c = search needs
+sub-add-two-runs : tie.Need-sub-add-two-runs
+sub-add-two-runs c = search needs
 
-add-add-two : tie.Need-add-add-two
-add-add-two c = search needs
+add-add-two-runs : tie.Need-add-add-two-runs
+add-add-two-runs c = search needs
 
-add-add-two-2 : tie.Need-add-add-two-2
-add-add-two-2 c = search needs
+add-add-two-runs-2 : tie.Need-add-add-two-runs-2
+add-add-two-runs-2 c = search needs
 
-sub-add-two-2 : tie.Need-sub-add-two-2
-sub-add-two-2 c = search needs
+sub-add-two-runs-2 : tie.Need-sub-add-two-runs-2
+sub-add-two-runs-2 c = search needs
 
-sub-add-two-3 : tie.Need-sub-add-two-3
-sub-add-two-3 c = search needs
+sub-add-two-runs-3 : tie.Need-sub-add-two-runs-3
+sub-add-two-runs-3 c = search needs
 
-add-two-requires : tie.Need-add-two-requires
-add-two-requires c κs =
+add-two-runs-requires : tie.Need-add-two-runs-requires
+add-two-runs-requires c κs =
     let out₂ = c .before .before .before .before .before in
     let out = out₂ .before .before .before .before .before .before in
     let s = out .before .before .before .before .before in
@@ -92,9 +92,9 @@ returns c =
       runs₂ = out₂ .remove2 .last .1 .0;
       first = out .remove .ensures;
       second = out₂ .remove2 .ensures;
-      taken = subst (λ R. Added (out₂ .remove2 .last .0) (out₂ .remove2 .last .1 .0) (a .kept) R (last .add-two .last .0) (last .add-two .last .1 .0))
+      taken = subst (λ R. Added (out₂ .remove2 .last .0) (out₂ .remove2 .last .1 .0) (a .kept) R (last .add-two-runs .last .0) (last .add-two-runs .last .1 .0))
           (merged-is P Q (a .a) (a .b) (a .n) (a .m) (a .k) (around .around .result) (length-vertices (a .ring .now) (a .n) (s .pre .1 .0 .0)) (length-vertices (a .other .now) (a .m) (s .pre .1 .1 .0 .0)) (around .around .ensures .0))
-          (last .add-two .ensures);
+          (last .add-two-runs .ensures);
     }
 
 pub join-spec : {M : Type 1} → statement M
@@ -105,12 +105,12 @@ join-spec =
     around-requires
     remove-requires
     remove-requires-2
-    sub-add-two
-    add-add-two
-    add-add-two-2
-    sub-add-two-2
-    sub-add-two-3
-    add-two-requires
+    sub-add-two-runs
+    add-add-two-runs
+    add-add-two-runs-2
+    sub-add-two-runs-2
+    sub-add-two-runs-3
+    add-two-runs-requires
     same-length
     same-length-2
     returns)

@@ -10,17 +10,17 @@ use borrow.Author.Needs.{needs}
 use Rattle.changes.proofs.merging.perform.Statement.{statement}
 use Rattle.changes.proofs.merging.perform.Tie as tie
 
-slice-aggregate-read : tie.Need-slice-aggregate-read
-slice-aggregate-read c = search needs
+slice-aggregate-copy-ring : tie.Need-slice-aggregate-copy-ring
+slice-aggregate-copy-ring c = search needs
 
-read-requires : tie.Need-read-requires
-read-requires c κs = search needs
+copy-ring-requires : tie.Need-copy-ring-requires
+copy-ring-requires c κs = search needs
 
-slice-aggregate-read-2 : tie.Need-slice-aggregate-read-2
-slice-aggregate-read-2 c = search needs
+slice-aggregate-copy-ring-2 : tie.Need-slice-aggregate-copy-ring-2
+slice-aggregate-copy-ring-2 c = search needs
 
-read-requires-2 : tie.Need-read-requires-2
-read-requires-2 c κs = search needs
+copy-ring-requires-2 : tie.Need-copy-ring-requires-2
+copy-ring-requires-2 c κs = search needs
 
 sub-join : tie.Need-sub-join
 sub-join c = search needs
@@ -46,8 +46,8 @@ join-requires c κs =
     let got = got₂ .before .before .before .before .before in
     let s = got .before .before .before .before .before in
     let p = s .pre .0 in
-    let many = got .read .ensures .0 in
-    let more = got₂ .read2 .ensures .0 in
+    let many = got .copy-ring .ensures .0 in
+    let more = got₂ .copy-ring2 .ensures .0 in
     (p, ((search needs, omega (arith, many), omega (arith, many, s .pre .1 .0)), ((search needs, omega (arith, more), omega (arith, more, s .pre .1 .0)), (omega (arith, s .pre .1 .1), omega (arith, many, s .pre .1 .1), omega (arith, more, s .pre .1 .1)))))
 
 same-length : tie.Need-same-length
@@ -66,18 +66,18 @@ returns c =
     let store = a .store .now in
     let runs = a .runs .now in
     let p = s .pre .0 in
-    let ring = read-back store (firstPlace runs (a .kept)) (size runs (a .kept)) (omega (arith, p .first-inside, p .most, p .store-length)) _ _ (got .read .ensures .1) _ (got .read .ensures .0) in
-    let other = read-back store (firstPlace runs (a .gone)) (size runs (a .gone)) (omega (arith, p .second-inside, p .most, p .store-length)) _ _ (got₂ .read2 .ensures .1) _ (got₂ .read2 .ensures .0) in
+    let ring = read-back store (firstPlace runs (a .kept)) (size runs (a .kept)) (omega (arith, p .first-inside, p .most, p .store-length)) _ _ (got .copy-ring .ensures .1) _ (got .copy-ring .ensures .0) in
+    let other = read-back store (firstPlace runs (a .gone)) (size runs (a .gone)) (omega (arith, p .second-inside, p .most, p .store-length)) _ _ (got₂ .copy-ring2 .ensures .1) _ (got₂ .copy-ring2 .ensures .0) in
     (refl, subst₂ (λ xs ys. Joined store runs (a .kept) (a .gone) (merged (vertices xs) (a .a) (vertices ys) (a .b) (a .k)) (done .join .last .0) (done .join .last .1 .0)) ring other (done .join .ensures))
 
 pub perform-spec : {M : Type 1} → statement M
 perform-spec =
     tie.close
     (tie.spec
-    slice-aggregate-read
-    read-requires
-    slice-aggregate-read-2
-    read-requires-2
+    slice-aggregate-copy-ring
+    copy-ring-requires
+    slice-aggregate-copy-ring-2
+    copy-ring-requires-2
     sub-join
     part-join-start
     part-join-end

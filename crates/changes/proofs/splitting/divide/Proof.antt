@@ -31,16 +31,16 @@ add-two c = search needs
 remove-requires : tie.Need-remove-requires
 remove-requires c κs = search needs
 
-add-one-requires : tie.Need-add-one-requires
-add-one-requires c κs =
+add-run-and-path-requires : tie.Need-add-run-and-path-requires
+add-run-and-path-requires c κs =
     let gone = c .before .before .before .before .before in
     let s = gone .before .before .before .before .before .before in
     let r = gone .before .before .before .before .steps .ensures in
     let t = left-total _ _ _ _ _ (s .pre .0 .2) (gone .remove .ensures) in
     omega (arith, t, r .1)
 
-add-two-requires : tie.Need-add-two-requires
-add-two-requires c κs =
+add-two-runs-requires : tie.Need-add-two-runs-requires
+add-two-runs-requires c κs =
     let put = c .before .before .before .before .before in
     let gone = put .before .before .before .before .before .before in
     let s = gone .before .before .before .before .before .before in
@@ -49,7 +49,7 @@ add-two-requires c κs =
     let left = gone .remove .ensures in
     let less = left-total _ _ _ _ _ (s .pre .0 .2) left in
     let one = run (vertices (s .args .ring .now)) (s .args .i) (1 + gone .before .before .before .before .steps .result) ++ reverse (vertices (s .args .path .now)) in
-    let more = added-total (gone .remove .last .0) (gone .remove .last .1 .0) (s .args .d) one (put .add-one .last .0) (put .add-one .last .1 .0) (left .long-runs) (s .pre .0 .2) (left .gone) (put .add-one .ensures) in
+    let more = added-total (gone .remove .last .0) (gone .remove .last .1 .0) (s .args .d) one (put .add-run-and-path .last .0) (put .add-run-and-path .last .1 .0) (left .long-runs) (s .pre .0 .2) (left .gone) (put .add-run-and-path .ensures) in
     let many = one-length (vertices (s .args .ring .now)) (s .args .i) (1 + gone .before .before .before .before .steps .result) (s .args .path .now) (s .args .k) (s .pre .1 .1 .1 .0) in
     let round = steps-round (s .args .n) (s .args .i) (s .args .j) (s .pre .1 .1 .0 .0) (s .pre .1 .1 .0 .1) (s .pre .1 .1 .0 .2) in
     omega (arith, less, more, many, round, there .0, back .0, back .1)
@@ -78,11 +78,11 @@ returns c =
     record {
       store₁ = gone .remove .last .0;
       runs₁ = gone .remove .last .1 .0;
-      store₂ = put .add-one .last .0;
-      runs₂ = put .add-one .last .1 .0;
+      store₂ = put .add-run-and-path .last .0;
+      runs₂ = put .add-run-and-path .last .1 .0;
       left = gone .remove .ensures;
-      first = transport (λ t. Added (gone .remove .last .0) (gone .remove .last .1 .0) (s .args .d) (run P (s .args .i) (there t) ++ reverse W) (put .add-one .last .0) (put .add-one .last .1 .0)) (put .add-one .ensures);
-      second = transport (λ t. Added (put .add-one .last .0) (put .add-one .last .1 .0) (s .args .e) (run P (s .args .j) (back t) ++ path t) (last .add-two .last .0) (last .add-two .last .1 .0)) (last .add-two .ensures);
+      first = transport (λ t. Added (gone .remove .last .0) (gone .remove .last .1 .0) (s .args .d) (run P (s .args .i) (there t) ++ reverse W) (put .add-run-and-path .last .0) (put .add-run-and-path .last .1 .0)) (put .add-run-and-path .ensures);
+      second = transport (λ t. Added (put .add-run-and-path .last .0) (put .add-run-and-path .last .1 .0) (s .args .e) (run P (s .args .j) (back t) ++ path t) (last .add-two-runs .last .0) (last .add-two-runs .last .1 .0)) (last .add-two-runs .ensures);
     }
 
 pub divide-spec : {M : Type 1} → statement M
@@ -94,8 +94,8 @@ divide-spec =
     steps-requires-2
     add-two
     remove-requires
-    add-one-requires
-    add-two-requires
+    add-run-and-path-requires
+    add-two-runs-requires
     same-length
     same-length-2
     returns)

@@ -10,11 +10,11 @@ use borrow.Author.Needs.{needs}
 use Rattle.changes.proofs.splitting.perform.Statement.{statement}
 use Rattle.changes.proofs.splitting.perform.Tie as tie
 
-slice-aggregate-read : tie.Need-slice-aggregate-read
-slice-aggregate-read c = search needs
+slice-aggregate-copy-ring : tie.Need-slice-aggregate-copy-ring
+slice-aggregate-copy-ring c = search needs
 
-read-requires : tie.Need-read-requires
-read-requires c κs = search needs
+copy-ring-requires : tie.Need-copy-ring-requires
+copy-ring-requires c κs = search needs
 
 sub-divide : tie.Need-sub-divide
 sub-divide c = search needs
@@ -43,15 +43,15 @@ returns c =
     let runs = s .args .runs .now in
     let d = s .args .d in
     let W = vertices (s .args .path .now) in
-    let ring = read-back store (firstPlace runs d) (size runs d) (omega (arith, s .pre .0 .0, s .pre .1 .0, s .pre .1 .1 .1 .1)) _ _ (got .read .ensures .1) _ (got .read .ensures .0) in
+    let ring = read-back store (firstPlace runs d) (size runs d) (omega (arith, s .pre .0 .0, s .pre .1 .0, s .pre .1 .1 .1 .1)) _ _ (got .copy-ring .ensures .1) _ (got .copy-ring .ensures .0) in
     (refl, subst (λ xs. Divided store runs d (s .args .e) (pieceOne (vertices xs) (s .args .i) (s .args .j) W) (pieceTwo (vertices xs) (s .args .i) (s .args .j) W) (done .divide .last .0) (done .divide .last .1 .0)) ring (done .divide .ensures))
 
 pub perform-spec : {M : Type 1} → statement M
 perform-spec =
     tie.close
     (tie.spec
-    slice-aggregate-read
-    read-requires
+    slice-aggregate-copy-ring
+    copy-ring-requires
     sub-divide
     part-divide-start
     part-divide-end

@@ -1,10 +1,10 @@
--- `room::pieces::write_one` writes a run, then a path backwards behind it. Assumes nothing.
+-- `room::pieces::write_run_and_path` writes a run, then a path backwards behind it. Assumes nothing.
 use borrow.Author.Needs.{needs}
 use Rattle.ring.specs.Grid.{vertices}
 use Rattle.room.specs.Runs.{run}
 use Rattle.room.proofs.Written.{run-length, points-both}
-use Rattle.room.proofs.pieces.write_one.Statement.{statement}
-use Rattle.room.proofs.pieces.write_one.Tie as tie
+use Rattle.room.proofs.pieces.write_run_and_path.Statement.{statement}
+use Rattle.room.proofs.pieces.write_run_and_path.Tie as tie
 
 mul-after : tie.Need-mul-after
 mul-after c = search needs
@@ -36,8 +36,8 @@ returns c =
     let s = first .before .before in
     points-both (s .args .to .now) (run (vertices (s .args .ring .now)) (s .args .i) (s .args .c)) _ (s .args .c) (run-length _ _ _) _ (first .write-run .ensures) _ (c .before .write-back .ensures)
 
-pub write-one-spec : {M : Type 1} → statement M
-write-one-spec =
+pub write-run-and-path-spec : {M : Type 1} → statement M
+write-run-and-path-spec =
     tie.close
     (tie.spec
     mul-after

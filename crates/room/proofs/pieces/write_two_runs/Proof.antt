@@ -1,10 +1,10 @@
--- `room::pieces::write_two` writes two runs, one behind the other. Assumes nothing.
+-- `room::pieces::write_two_runs` writes two runs, one behind the other. Assumes nothing.
 use borrow.Author.Needs.{needs}
 use Rattle.ring.specs.Grid.{vertices}
 use Rattle.room.specs.Runs.{run}
 use Rattle.room.proofs.Written.{run-length, points-both}
-use Rattle.room.proofs.pieces.write_two.Statement.{statement}
-use Rattle.room.proofs.pieces.write_two.Tie as tie
+use Rattle.room.proofs.pieces.write_two_runs.Statement.{statement}
+use Rattle.room.proofs.pieces.write_two_runs.Tie as tie
 
 mul-after : tie.Need-mul-after
 mul-after c = search needs
@@ -36,8 +36,8 @@ returns c =
     let s = first .before .before in
     points-both (s .args .to .now) (run (vertices (s .args .ring .now)) (s .args .i) (s .args .c)) _ (s .args .c) (run-length _ _ _) _ (first .write-run .ensures) _ (c .before .write-run2 .ensures)
 
-pub write-two-spec : {M : Type 1} → statement M
-write-two-spec =
+pub write-two-runs-spec : {M : Type 1} → statement M
+write-two-runs-spec =
     tie.close
     (tie.spec
     mul-after

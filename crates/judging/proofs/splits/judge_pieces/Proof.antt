@@ -1,4 +1,4 @@
--- `judging::splits::room` asks in document 01's order. Assumes nothing.
+-- `judging::splits::judge_pieces` asks in document 01's order. Assumes nothing.
 use Prim.Native.Nat.{ℕ, suc, _+_, _/_}
 use native.Mathlib.Omega.{arith}
 use mathlib.Core.Path.{_≡_, sym, _∙_}
@@ -9,10 +9,10 @@ use borrow.Author.Tests.{le-leb, lt-leb, lt-ltb, le-ltb}
 use Rattle.districts.specs.WellFormed.{total}
 use Rattle.room.specs.Runs.{steps}
 use Rattle.judging.specs.Judging.{lowestFree}
-use Rattle.judging.proofs.Tables.{answer-stops, answer-passes, answer-given}
+use Rattle.refusals.proofs.Verdicts.{refused-by, left-to, passed-all}
 use borrow.Author.Needs.{needs}
-use Rattle.judging.proofs.splits.room.Statement.{statement}
-use Rattle.judging.proofs.splits.room.Tie as tie
+use Rattle.judging.proofs.splits.judge_pieces.Statement.{statement}
+use Rattle.judging.proofs.splits.judge_pieces.Tie as tie
 
 steps-requires : tie.Need-steps-requires
 steps-requires c κs = search needs
@@ -44,7 +44,7 @@ few c =
     counted k e = omega arith
 
 returns : tie.Need-returns
-returns c = answer-stops 9 _ _ _ (sym (few (c .before)) ∙ c .if1 .taken)
+returns c = refused-by 9 _ _ (sym (few (c .before)) ∙ c .if1 .taken)
 
 lowest-unused-requires : tie.Need-lowest-unused-requires
 lowest-unused-requires c κs = search needs
@@ -53,8 +53,8 @@ returns-2 : tie.Need-returns-2
 returns-2 c =
     let free = c .before in
     let first = free .before in
-    answer-passes 9 _ _ _ (sym (few (first .before)) ∙ first .if1 .left)
-    (answer-stops 11 _ _ _ (le-leb 64 (lowestFree (first .before .before .before .before .args .runs .now)) (omega (arith, free .lowest-unused .ensures .0, c .if2 .taken))))
+    left-to 9 _ _ (sym (few (first .before)) ∙ first .if1 .left)
+    (refused-by 11 _ _ (le-leb 64 (lowestFree (first .before .before .before .before .args .runs .now)) (omega (arith, free .lowest-unused .ensures .0, c .if2 .taken))))
 
 total-requires : tie.Need-total-requires
 total-requires c κs = search needs
@@ -72,9 +72,9 @@ returns-3 c =
     let first = free .before in
     let runs = first .before .before .before .before .args .runs .now in
     let path = first .before .before .before .before .args .path .now in
-    answer-passes 9 _ _ _ (sym (few (first .before)) ∙ first .if1 .left)
-    (answer-passes 11 _ _ _ (lt-leb 64 (lowestFree runs) (omega (arith, free .lowest-unused .ensures .0, all .before .if2 .left)))
-    (answer-stops 12 _ _ _ (lt-ltb 2048 (total runs + 2 + length path) (omega (arith, all .total .ensures, c .if3 .taken)))))
+    left-to 9 _ _ (sym (few (first .before)) ∙ first .if1 .left)
+    (left-to 11 _ _ (lt-leb 64 (lowestFree runs) (omega (arith, free .lowest-unused .ensures .0, all .before .if2 .left)))
+    (refused-by 12 _ _ (lt-ltb 2048 (total runs + 2 + length path) (omega (arith, all .total .ensures, c .if3 .taken)))))
 
 returns-4 : tie.Need-returns-4
 returns-4 c =
@@ -83,12 +83,12 @@ returns-4 c =
     let first = free .before in
     let runs = first .before .before .before .before .args .runs .now in
     let path = first .before .before .before .before .args .path .now in
-    answer-passes 9 _ _ _ (sym (few (first .before)) ∙ first .if1 .left)
-    (answer-passes 11 _ _ _ (lt-leb 64 (lowestFree runs) (omega (arith, free .lowest-unused .ensures .0, all .before .if2 .left)))
-    (answer-passes 12 _ _ _ (le-ltb 2048 (total runs + 2 + length path) (omega (arith, all .total .ensures, c .if3 .left))) (answer-given _ _ (free .lowest-unused .ensures .0))))
+    left-to 9 _ _ (sym (few (first .before)) ∙ first .if1 .left)
+    (left-to 11 _ _ (lt-leb 64 (lowestFree runs) (omega (arith, free .lowest-unused .ensures .0, all .before .if2 .left)))
+    (left-to 12 _ _ (le-ltb 2048 (total runs + 2 + length path) (omega (arith, all .total .ensures, c .if3 .left))) (sym passed-all)))
 
-pub room-spec : {M : Type 1} → statement M
-room-spec =
+pub judge-pieces-spec : {M : Type 1} → statement M
+judge-pieces-spec =
     tie.close
     (tie.spec
     steps-requires

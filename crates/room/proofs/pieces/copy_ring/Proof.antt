@@ -1,4 +1,4 @@
--- `room::pieces::read` writes a district's ring once round. Assumes nothing.
+-- `room::pieces::copy_ring` writes a district's ring once round. Assumes nothing.
 use Prim.Native.Nat.{_+_, _-_, _*_, _≤_}
 use native.Mathlib.Omega.{arith}
 use mathlib.Core.Path.{ap, _∙_}
@@ -8,8 +8,8 @@ use Rattle.districts.specs.Lent.{written}
 use Rattle.districts.proofs.Lent.{cut, part-length}
 use Rattle.room.proofs.Written.{copied}
 use borrow.Author.Needs.{needs}
-use Rattle.room.proofs.pieces.read.Statement.{statement}
-use Rattle.room.proofs.pieces.read.Tie as tie
+use Rattle.room.proofs.pieces.copy_ring.Statement.{statement}
+use Rattle.room.proofs.pieces.copy_ring.Tie as tie
 
 size-requires : tie.Need-size-requires
 size-requires c κs = search needs
@@ -59,8 +59,8 @@ returns c =
           ∙ ap (λ xs. written xs (s .args .to .now)) (cut store f n ∙ (λ t. part store (place .first-place .ensures .0 t) (many .size .ensures .0 t))),
     )
 
-pub read-spec : {M : Type 1} → statement M
-read-spec =
+pub copy-ring-spec : {M : Type 1} → statement M
+copy-ring-spec =
     tie.close
     (tie.spec
     size-requires

@@ -1,4 +1,4 @@
--- `judging::matching::pair` hands the two rings to `border` as the store holds them. Assumes nothing.
+-- `judging::matching::judge_pair` hands the two rings to `border` as the store holds them. Assumes nothing.
 use Prim.Native.Nat.{ℕ, _+_, _-_, _*_, _<_}
 use native.Mathlib.Omega.{arith}
 use mathlib.Core.Path.{_≡_, sym, ap, _∙_}
@@ -16,11 +16,10 @@ use Rattle.districts.proofs.Meaning.{ring-when}
 use Rattle.refusals.specs.Verdicts.{verdict}
 use Rattle.districts.proofs.Lent.{held-in-use, cut}
 use Rattle.judging.specs.Judging.{borderTests}
-use Rattle.changes.specs.Answers.{answers}
-use Rattle.judging.proofs.Tables.{answer-stops, answer-passes}
+use Rattle.refusals.proofs.Verdicts.{refused-by, left-to}
 use borrow.Author.Needs.{needs}
-use Rattle.judging.proofs.matching.pair.Statement.{statement}
-use Rattle.judging.proofs.matching.pair.Tie as tie
+use Rattle.judging.proofs.matching.judge_pair.Statement.{statement}
+use Rattle.judging.proofs.matching.judge_pair.Tie as tie
 
 in-use-requires : tie.Need-in-use-requires
 in-use-requires c κs = search needs
@@ -58,13 +57,13 @@ vertices-of : (store : List ℤ) (runs : List ℕ) (d : ℕ) {f n : ℕ} → f �
 vertices-of store runs d {f} {n} e k some = ap vertices (cut store f n ∙ (λ t. part store (e t) (k t))) ∙ sym (ap verticesOf (ring-when store (firstPlace runs d) (size runs d) some))
 
 returns : tie.Need-returns
-returns c = answer-stops 6 _ _ _ (sym (numbers (c .before)) ∙ c .if1 .taken)
+returns c = refused-by 6 _ _ (sym (numbers (c .before)) ∙ c .if1 .taken)
 
 returns-2 : tie.Need-returns-2
 returns-2 c =
     let used = c .before in
     let a = used .before .before .before .before .args in
-    answer-passes 6 _ _ _ (sym (numbers (used .before)) ∙ used .if1 .left) (answer-stops 7 _ _ _ (eq-eqb (a .kept) (a .gone) (c .if2 .taken)))
+    left-to 6 _ _ (sym (numbers (used .before)) ∙ used .if1 .left) (refused-by 7 _ _ (eq-eqb (a .kept) (a .gone) (c .if2 .taken)))
 
 size-requires : tie.Need-size-requires
 size-requires c κs = (runs-long (c .before), kept (c .before) .0)
@@ -96,17 +95,17 @@ mul-end c = search needs
 add-end : tie.Need-add-end
 add-end c = search needs
 
-mul-border : tie.Need-mul-border
-mul-border c = search needs
+mul-judge-border : tie.Need-mul-judge-border
+mul-judge-border c = search needs
 
-sub-border : tie.Need-sub-border
-sub-border c = search needs
+sub-judge-border : tie.Need-sub-judge-border
+sub-judge-border c = search needs
 
-part-border-start : tie.Need-part-border-start
-part-border-start c = search needs
+part-judge-border-start : tie.Need-part-judge-border-start
+part-judge-border-start c = search needs
 
-part-border-end : tie.Need-part-border-end
-part-border-end c =
+part-judge-border-end : tie.Need-part-judge-border-end
+part-judge-border-end c =
     let first = c .before .before .before in
     let used = first .before .before in
     let s = used .before .before .before .before in
@@ -114,17 +113,17 @@ part-border-end c =
     let fits = s .pre .fits (s .args .kept) (kept used .0) (omega (arith, some)) in
     omega (arith, fits, c .before .first-place .ensures .0, first .size .ensures .0, s .pre .store-length)
 
-mul-border-2 : tie.Need-mul-border-2
-mul-border-2 c = search needs
+mul-judge-border-2 : tie.Need-mul-judge-border-2
+mul-judge-border-2 c = search needs
 
-sub-border-2 : tie.Need-sub-border-2
-sub-border-2 c = search needs
+sub-judge-border-2 : tie.Need-sub-judge-border-2
+sub-judge-border-2 c = search needs
 
-part-border-start-2 : tie.Need-part-border-start-2
-part-border-start-2 c = search needs
+part-judge-border-start-2 : tie.Need-part-judge-border-start-2
+part-judge-border-start-2 c = search needs
 
-part-border-end-2 : tie.Need-part-border-end-2
-part-border-end-2 c =
+part-judge-border-end-2 : tie.Need-part-judge-border-end-2
+part-judge-border-end-2 c =
     let place = c .before in
     let second = place .before .before in
     let used = second .before .before .before in
@@ -133,8 +132,8 @@ part-border-end-2 c =
     let fits = s .pre .fits (s .args .gone) (gone used .0) (omega (arith, some)) in
     omega (arith, fits, place .first-place2 .ensures .0, second .size2 .ensures .0, s .pre .store-length)
 
-border-requires : tie.Need-border-requires
-border-requires c κs = search needs
+judge-border-requires : tie.Need-judge-border-requires
+judge-border-requires c κs = search needs
 
 returns-3 : tie.Need-returns-3
 returns-3 c =
@@ -150,12 +149,12 @@ returns-3 c =
     let runs = a .runs .now in
     let P = vertices-of store runs (a .kept) (place .first-place .ensures .0) (size₁ .size .ensures .0) (kept used .1) in
     let Q = vertices-of store runs (a .gone) (place₂ .first-place2 .ensures .0) (size₂ .size2 .ensures .0) (gone used .1) in
-    answer-passes 6 _ _ _ (sym (numbers (used .before)) ∙ used .if1 .left)
-    (answer-passes 7 _ _ _ (ne-eqb (a .kept) (a .gone) (differ .if2 .left))
-    (c .border .ensures ∙ (λ t. answers (verdict (borderTests (P t) (a .a) (Q t) (a .b) (a .k))) (a .kept))))
+    left-to 6 _ _ (sym (numbers (used .before)) ∙ used .if1 .left)
+    (left-to 7 _ _ (ne-eqb (a .kept) (a .gone) (differ .if2 .left))
+    (c .judge-border .ensures ∙ (λ t. verdict (borderTests (P t) (a .a) (Q t) (a .b) (a .k)))))
 
-pub pair-spec : {M : Type 1} → statement M
-pair-spec =
+pub judge-pair-spec : {M : Type 1} → statement M
+judge-pair-spec =
     tie.close
     (tie.spec
     in-use-requires
@@ -172,13 +171,13 @@ pair-spec =
     add-to
     mul-end
     add-end
-    mul-border
-    sub-border
-    part-border-start
-    part-border-end
-    mul-border-2
-    sub-border-2
-    part-border-start-2
-    part-border-end-2
-    border-requires
+    mul-judge-border
+    sub-judge-border
+    part-judge-border-start
+    part-judge-border-end
+    mul-judge-border-2
+    sub-judge-border-2
+    part-judge-border-start-2
+    part-judge-border-end-2
+    judge-border-requires
     returns-3)

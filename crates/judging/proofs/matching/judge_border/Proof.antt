@@ -1,4 +1,4 @@
--- `judging::matching::border` asks in document 01's order. Assumes nothing.
+-- `judging::matching::judge_border` asks in document 01's order. Assumes nothing.
 use Prim.Native.Nat.{_+_, _-_, _<_}
 use native.Mathlib.Omega.{arith}
 use mathlib.Core.Path.{_≡_, refl, sym, ap, _∙_}
@@ -11,14 +11,13 @@ use Rattle.ring.specs.Grid.{vertices}
 use Rattle.ring.proofs.Pick.{neither-left, neither-right}
 use Rattle.ring.proofs.Vertices.{length-vertices}
 use Rattle.districts.proofs.Tests.{passes-left, passes-right}
-use Rattle.refusals.specs.Verdicts.{Test, _if_, verdict}
+use Rattle.refusals.specs.Verdicts.{Test, _if_, Verdict, verdict}
 use Rattle.judging.specs.Merging.{matches, merged}
-use Rattle.changes.specs.Answers.{Answer, answers}
-use Rattle.judging.proofs.Tables.{answer-stops, answer-passes, answer-given}
+use Rattle.refusals.proofs.Verdicts.{refused-by, left-to, passed-all}
 use Rattle.judging.proofs.Matched.{merged-length}
 use borrow.Author.Needs.{needs}
-use Rattle.judging.proofs.matching.border.Statement.{statement}
-use Rattle.judging.proofs.matching.border.Tie as tie
+use Rattle.judging.proofs.matching.judge_border.Statement.{statement}
+use Rattle.judging.proofs.matching.judge_border.Tie as tie
 
 -- ---- the tests as the table has them, of rings of n and m vertices
 
@@ -42,10 +41,10 @@ inside c =
     )
 
 returns : tie.Need-returns
-returns c = answer-stops 8 _ _ _ (sym (indices (c .before)) ∙ c .if1 .taken)
+returns c = refused-by 8 _ _ (sym (indices (c .before)) ∙ c .if1 .taken)
 
 returns-2 : tie.Need-returns-2
-returns-2 c = answer-passes 8 _ _ _ (sym (indices (c .before .before)) ∙ c .before .if1 .left) (answer-stops 10 _ _ _ (passes-left (sym (edges (c .before .before)) ∙ c .if2 .taken) _))
+returns-2 c = left-to 8 _ _ (sym (indices (c .before .before)) ∙ c .before .if1 .left) (refused-by 10 _ _ (passes-left (sym (edges (c .before .before)) ∙ c .if2 .taken) _))
 
 matches-requires : tie.Need-matches-requires
 matches-requires c κs =
@@ -57,8 +56,8 @@ returns-3 c =
     let differ = c .before in
     let enough = differ .before in
     let s = enough .before .before in
-    answer-passes 8 _ _ _ (sym (indices s) ∙ enough .before .if1 .left)
-    (answer-stops 10 _ _ _ (passes-right (eqb (s .args .k) 0 || (leb (length (vertices (s .args .ring .now))) (s .args .k) || leb (length (vertices (s .args .other .now))) (s .args .k))) (ap not (sym (differ .matches .ensures) ∙ not-true _ (c .if3 .taken)))))
+    left-to 8 _ _ (sym (indices s) ∙ enough .before .if1 .left)
+    (refused-by 10 _ _ (passes-right (eqb (s .args .k) 0 || (leb (length (vertices (s .args .ring .now))) (s .args .k) || leb (length (vertices (s .args .other .now))) (s .args .k))) (ap not (sym (differ .matches .ensures) ∙ not-true _ (c .if3 .taken)))))
 
 sub-if4 : tie.Need-sub-if4
 sub-if4 c = let h = inside (c .before .before) .1 .0 in omega arith
@@ -77,22 +76,22 @@ few c =
     ap (λ n. ltb n 3) (sym (merged-length (vertices (a .ring .now)) (vertices (a .other .now)) (a .a) (a .b) (a .n) (a .m) (a .k) (long s .0) (long s .1) (inside enough .1 .0) (inside enough .1 .1)))
 
 -- refusals 8 and 10 are passed
-passed : (c : tie.Else3) (r : Answer) (ts : List Test) → let s = c .before .before .before .before in r ≡ answers (verdict ts) (s .args .kept)
-    → r ≡ answers (verdict ((8 if leb (length (vertices (s .args .ring .now))) (s .args .a) || leb (length (vertices (s .args .other .now))) (s .args .b)) ∷ (10 if (eqb (s .args .k) 0 || (leb (length (vertices (s .args .ring .now))) (s .args .k) || leb (length (vertices (s .args .other .now))) (s .args .k))) || not (matches (vertices (s .args .ring .now)) (s .args .a) (vertices (s .args .other .now)) (s .args .b) (s .args .k))) ∷ ts)) (s .args .kept)
+passed : (c : tie.Else3) (r : Verdict) (ts : List Test) → let s = c .before .before .before .before in r ≡ verdict ts
+    → r ≡ verdict ((8 if leb (length (vertices (s .args .ring .now))) (s .args .a) || leb (length (vertices (s .args .other .now))) (s .args .b)) ∷ (10 if (eqb (s .args .k) 0 || (leb (length (vertices (s .args .ring .now))) (s .args .k) || leb (length (vertices (s .args .other .now))) (s .args .k))) || not (matches (vertices (s .args .ring .now)) (s .args .a) (vertices (s .args .other .now)) (s .args .b) (s .args .k))) ∷ ts)
 passed c r ts e =
     let enough = c .before .before in
     let s = enough .before .before in
-    answer-passes 8 _ _ _ (sym (indices s) ∙ enough .before .if1 .left)
-    (answer-passes 10 _ _ _ (λ t. (sym (edges s) ∙ enough .if2 .left) t || not ((sym (c .before .matches .ensures) ∙ not-false _ (c .if3 .left)) t)) e)
+    left-to 8 _ _ (sym (indices s) ∙ enough .before .if1 .left)
+    (left-to 10 _ _ (λ t. (sym (edges s) ∙ enough .if2 .left) t || not ((sym (c .before .matches .ensures) ∙ not-false _ (c .if3 .left)) t)) e)
 
 returns-4 : tie.Need-returns-4
-returns-4 c = passed (c .before) _ _ (answer-stops 9 _ _ _ (sym (few (c .before)) ∙ lt-ltb _ 3 (c .if4 .taken)))
+returns-4 c = passed (c .before) _ _ (refused-by 9 _ _ (sym (few (c .before)) ∙ lt-ltb _ 3 (c .if4 .taken)))
 
 returns-5 : tie.Need-returns-5
-returns-5 c = passed (c .before) _ _ (answer-passes 9 _ _ _ (sym (few (c .before)) ∙ le-ltb _ 3 (c .if4 .left)) (answer-given _ _ refl))
+returns-5 c = passed (c .before) _ _ (left-to 9 _ _ (sym (few (c .before)) ∙ le-ltb _ 3 (c .if4 .left)) (sym passed-all))
 
-pub border-spec : {M : Type 1} → statement M
-border-spec =
+pub judge-border-spec : {M : Type 1} → statement M
+judge-border-spec =
     tie.close
     (tie.spec
     returns

@@ -1,0 +1,23 @@
+-- What the two tests with which a judge begins tell of the lists. Assumes nothing.
+use Prim.Native.Nat.{ℕ}
+use mathlib.Core.Path.{_≡_, sym, ap, _∙_}
+use mathlib.Core.Bool.{true}
+use mathlib.Core.List.{List, _++_}
+use borrow.Author.Tests.{not-false}
+use Rattle.refusals.specs.declared.Verdict as Code
+use Rattle.refusals.specs.declared.Verdict.the-variants.{Accepted, Refused}
+use Rattle.refusals.specs.Numbers.{numberOf}
+use Rattle.refusals.specs.Verdicts.{Test, Verdict, accept, refuse, verdict, verdictOf}
+use Rattle.refusals.proofs.Verdicts.{accepted, stops-early, passes-first}
+use Rattle.districts.specs.Lent.{Lists, formed, means, beginning}
+
+module _ (l : Lists) (r : Code.Verdict) (said : verdictOf r ≡ verdict (beginning (formed l) (means l))) where
+  pub begun-formed : r ≡ Accepted → formed l ≡ true
+  begun-formed e = not-false _ (accepted 1 _ _ (sym said ∙ ap verdictOf e) .0)
+
+  -- the tests behind them decide, or one of the two has
+  pub begun-passed : r ≡ Accepted → (ts : List Test) (v : Verdict) → v ≡ verdict ts → v ≡ verdict (beginning (formed l) (means l) ++ ts)
+  begun-passed e ts v f = f ∙ sym (passes-first (beginning (formed l) (means l)) ts (sym said ∙ ap verdictOf e))
+
+  pub begun-refused : (n : ℕ) → verdictOf r ≡ refuse n → (ts : List Test) → refuse n ≡ verdict (beginning (formed l) (means l) ++ ts)
+  begun-refused n e ts = sym (stops-early n (beginning (formed l) (means l)) ts (sym said ∙ e))
