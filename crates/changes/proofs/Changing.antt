@@ -29,7 +29,7 @@ use Rattle.changes.proofs.Outcomes.{accepting}
 -- what was answered with a number was accepted, and left what it was to leave
 granted : (v : Verdict) (d e : ℕ) (g : Register) (before after : Lists) → ChangedBy v d g (Done e) before after → (v ≡ accept) × (means after ≡ g)
 granted v d e g before after c =
-    let yes = accepting v d e (c .said) .0 in
+    let yes = accepting v d e (c .said) in
     (yes, subst (λ w. Leaves w g before after) yes (c .left) .1)
 
 -- a number that one register uses and the other does not tells them apart

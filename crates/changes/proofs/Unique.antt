@@ -3,15 +3,13 @@ use Prim.Native.Nat.{ℕ}
 use native.Mathlib.Omega.{arith}
 use mathlib.Core.Path.{_≡_, refl, sym, ap, _∙_}
 use mathlib.Core.List.{List}
-use lib.Dec.{eqb}
 use lib.IntN.{ℤ}
-use Rattle.ring.specs.Choices.{pick}
 use Rattle.districts.specs.Register.{Register}
 use Rattle.refusals.specs.Verdicts.{Verdict, accept, refuse}
 use Rattle.districts.specs.Lent.{Lists, formed, means, Leaves}
 use Rattle.districts.proofs.Unique.{both-left}
 use Rattle.refusals.specs.declared.Refusal.{Refusal}
-use Rattle.refusals.specs.declared.Refusal.the-variants.{NotWellFormed, NoOutline, NoRing, BeyondGrid, BadNumber, SameDistrict, BadIndex, TooFew, NoMatch, NumbersInUse, NoRoom}
+use Rattle.refusals.proofs.Numbers.{refusalOf, refusal-back}
 use Rattle.changes.specs.declared.Changed.{Changed}
 use Rattle.changes.specs.declared.Changed.the-variants.{Done, Refused}
 use Rattle.refusals.specs.Numbers.{numberOf}
@@ -19,22 +17,6 @@ use Rattle.changes.specs.Answers.{Answer, done, refused, answerOf, answe
 use Rattle.changes.specs.Calls.{ChangedBy, SplitBy, MergeBy}
 
 -- document 01's numbers read back
-abbrev refusalOf : ℕ → Refusal
-refusalOf n = pick (eqb n 1) NotWellFormed (pick (eqb n 2) NoOutline (pick (eqb n 4) OddPath (pick (eqb n 5) BeyondGrid (pick (eqb n 6) BadNumber (pick (eqb n 7) SameDistrict (pick (eqb n 8) BadIndex (pick (eqb n 9) TooFew (pick (eqb n 10) NoMatch (pick (eqb n 11) NumbersInUse NoRoom)))))))))
-
-refusal-back : (r : Refusal) → refusalOf (numberOf r) ≡ r
-refusal-back NotWellFormed = refl
-refusal-back NoOutline = refl
-refusal-back OddPath = refl
-refusal-back BeyondGrid = refl
-refusal-back BadNumber = refl
-refusal-back SameDistrict = refl
-refusal-back BadIndex = refl
-refusal-back TooFew = refl
-refusal-back NoMatch = refl
-refusal-back NumbersInUse = refl
-refusal-back NoRoom = refl
-
 abbrev codeOf : Answer → Changed
 codeOf (done d) = Done d
 codeOf (refused n) = Refused (refusalOf n)

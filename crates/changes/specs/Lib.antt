@@ -1,3 +1,4 @@
+pub mod Answers
 pub mod Afterwards
 pub mod Performing
 pub mod Calls

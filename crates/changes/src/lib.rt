@@ -3,4 +3,11 @@ mod merging;
 mod splitting;
 
 pub use merging::merge;
+use refusals::Refusal;
 pub use splitting::split;
+
+pub enum Changed {
+    // The district that was made, or kept.
+    Done(usize),
+    Refused(Refusal),
+}

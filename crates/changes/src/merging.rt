@@ -1,5 +1,6 @@
 // Merging two districts along a border: both runs leave the store, and the result is written behind all rings.
-use judging::Changed;
+use crate::Changed;
+use refusals::Verdict;
 ghost use mathlib.Core.Path.{_≡_};
 ghost use Prim.Native.Nat.{_+_, _<_, _≤_};
 ghost use lib.ListN.{length};
@@ -48,7 +49,7 @@ fn join(
     );
 }
 
-// The rings are read before their room is closed.
+// The rings are copied before their room is closed.
 fn perform(
     store: &mut [i32],
     runs: &mut [u32],
@@ -96,9 +97,8 @@ pub fn merge(
 ) -> Changed
     ensures { λ r. ⌜ MergeBy r kept a gone b k (record { outline = now (outline .entry); store = now (store .entry); runs = now (runs .entry) }) (record { outline = now (outline .entry); store = now (store .exit); runs = now (runs .exit) }) ⌝ }
 {
-    let verdict = judging::merge(outline, store, runs, kept, a, gone, b, k);
-    match verdict {
-        Changed::Done(_) => perform(store, runs, kept, a, gone, b, k),
-        Changed::Refused(_) => verdict,
+    match judging::merge(outline, store, runs, kept, a, gone, b, k) {
+        Verdict::Accepted => perform(store, runs, kept, a, gone, b, k),
+        Verdict::Refused(r) => Changed::Refused(r),
     }
 }

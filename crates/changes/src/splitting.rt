@@ -1,5 +1,6 @@
 // Splitting a district: its run leaves the store, and the two pieces are written from the first free place on.
-use judging::Changed;
+use crate::Changed;
+use refusals::Verdict;
 ghost use mathlib.Core.Path.{_≡_};
 ghost use Prim.Native.Nat.{_+_, _%_, _<_, _≤_};
 ghost use lib.ListN.{length};
@@ -7,6 +8,7 @@ ghost use Rattle.ring.specs.Grid.{vertices};
 ghost use Rattle.districts.specs.Lists.{firstPlace, size as sizeOf, part};
 ghost use Rattle.districts.specs.WellFormed.{total as totalOf};
 ghost use Rattle.changes.specs.declared.Changed.the-variants.{Done};
+ghost use Rattle.judging.specs.Judging.{lowestFree};
 ghost use Rattle.judging.specs.Splitting.{pieceOne, pieceTwo};
 ghost use Rattle.changes.specs.Performing.{Divided};
 ghost use Rattle.changes.specs.Calls.{SplitBy};
@@ -38,23 +40,23 @@ fn divide(
     room::add_two_runs(store, runs, e, ring, n, j, two, path, k, 0, k);
 }
 
-// The district's ring is read before its room is closed.
+// The lowest unused number takes piece two. The district's ring is copied before its room is closed.
 fn perform(
     store: &mut [i32],
     runs: &mut [u32],
     d: usize,
-    e: usize,
     i: usize,
     j: usize,
     path: &[i32],
 ) -> Changed
-    requires { ⌜ (length (now store) ≡ 4096) × (length (now runs) ≡ 129) × (d < 64) × (e < 64) ⌝ }
+    requires { ⌜ (length (now store) ≡ 4096) × (length (now runs) ≡ 129) × (d < 64) × (lowestFree (now runs) < 64) ⌝ }
     requires { ⌜ firstPlace (now runs) d + sizeOf (now runs) d ≤ totalOf (now runs) ⌝ }
     requires { ⌜ (i < sizeOf (now runs) d) × (j < sizeOf (now runs) d) × (i ≡ j → ⊥) ⌝ }
     requires { ⌜ length (now path) % 2 ≡ 0 ⌝ }
     requires { ⌜ totalOf (now runs) + 2 + length (now path) ≤ 2048 ⌝ }
-    ensures { λ r. ⌜ (r ≡ Done e) × Divided (now (store .entry)) (now (runs .entry)) d e (pieceOne (vertices (part (now (store .entry)) (firstPlace (now (runs .entry)) d) (sizeOf (now (runs .entry)) d))) i j (vertices (now (path .entry)))) (pieceTwo (vertices (part (now (store .entry)) (firstPlace (now (runs .entry)) d) (sizeOf (now (runs .entry)) d))) i j (vertices (now (path .entry)))) (now (store .exit)) (now (runs .exit)) ⌝ }
+    ensures { λ r. ⌜ (r ≡ Done (lowestFree (now (runs .entry)))) × Divided (now (store .entry)) (now (runs .entry)) d (lowestFree (now (runs .entry))) (pieceOne (vertices (part (now (store .entry)) (firstPlace (now (runs .entry)) d) (sizeOf (now (runs .entry)) d))) i j (vertices (now (path .entry)))) (pieceTwo (vertices (part (now (store .entry)) (firstPlace (now (runs .entry)) d) (sizeOf (now (runs .entry)) d))) i j (vertices (now (path .entry)))) (now (store .exit)) (now (runs .exit)) ⌝ }
 {
+    let e = judging::lowest_unused(runs);
     let mut ring = [0i32; districts::STORE_LENGTH];
     let many = room::copy_ring(&mut ring, store, runs, d);
     divide(
@@ -84,9 +86,8 @@ pub fn split(
 ) -> Changed
     ensures { λ r. ⌜ SplitBy r d i j (now (path .entry)) (record { outline = now (outline .entry); store = now (store .entry); runs = now (runs .entry) }) (record { outline = now (outline .entry); store = now (store .exit); runs = now (runs .exit) }) ⌝ }
 {
-    let verdict = judging::split(outline, store, runs, d, i, j, path);
-    match verdict {
-        Changed::Done(e) => perform(store, runs, d, e, i, j, path),
-        Changed::Refused(_) => verdict,
+    match judging::split(outline, store, runs, d, i, j, path) {
+        Verdict::Accepted => perform(store, runs, d, i, j, path),
+        Verdict::Refused(r) => Changed::Refused(r),
     }
 }
