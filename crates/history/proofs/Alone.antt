@@ -22,12 +22,13 @@ use Rattle.ring.proofs.Pick.{pick-false}
 use Rattle.ring.proofs.Quadrants.{turns-reverse}
 use Rattle.ring.proofs.Search.{lowest-none, lowest-is, lowest-over}
 use Rattle.districts.specs.Counts.{sumTo}
+use Rattle.districts.specs.Lent.{beginning}
 use Rattle.districts.specs.Register.{Slot, unused, ring, Register, slot, inUse}
 use Rattle.districts.specs.Answers.{report, one}
 use Rattle.districts.proofs.Counting.{term-most}
 use Rattle.refusals.specs.Verdicts.{accept, verdict}
-use Rattle.register.specs.Sorting.{rests, winds, ofSlot, onBorder, windsAbout, sorted, belongsTo, assignTests, assigned}
-use Rattle.register.proofs.Verdicts.{answer-given}
+use Rattle.register.specs.Sorting.{rests, winds, ofSlot, onBorder, windsAbout, sorted, belongsTo, assigned}
+use Rattle.register.proofs.Given.{answer-given, point-taken}
 use Rattle.refusals.proofs.Verdicts.{passes, passed-all}
 use Rattle.history.specs.Histories.{Call, empty, after}
 use Rattle.history.specs.Adding.{sumOver, slotWinding, Clear, ClearOf, SaidOne}
@@ -215,17 +216,13 @@ module _ (g : Register) (r : ℕ) (x y u : ℤ) (full : length (g .districts) �
       let border = lowest-none (onBorder g (point x y)) 64 0 (λ d least most. clear d) in
       (λ t. sorted (border t) (how-many t) (lowest (windsAbout g (point x y)) 64 0))
 
-  taken : verdict (assignTests true g x y) ≡ accept
-  taken =
-      passes 1 _ _ refl
-      ∙ passes 2 _ _ (ap not (winds-in-use (point x y) (g .outline) u other whole))
-      ∙ passes 5 _ _ (λ t. across t || up-too t)
-      ∙ passed-all
+  begun : verdict (beginning true g) ≡ accept
+  begun = passes 1 _ _ refl ∙ passes 2 _ _ (ap not (winds-in-use (point x y) (g .outline) u other whole)) ∙ passed-all
 
   answered : SaidOne (assigned true g r x y) g r (point x y) u
   answered = record {
     district = which;
-    is = sym (answer-given true g r x y taken) ∙ ap (report r) belongs;
+    is = sym (point-taken x y _ (λ t. across t || up-too t) ∙ answer-given true g r x y begun) ∙ ap (report r) belongs;
     only = record { number = below; winds = wound which its; alone = alone };
   }
 

@@ -7,7 +7,7 @@ ghost use Rattle.tally.specs.Tally.{fresh, raising, onesOf, tallied, ans
 use districts::Assigned;
 use districts::Class;
 use districts::NUMBERS;
-use districts::Refusal;
+use refusals::Refusal;
 use districts::Report;
 
 const MOST: u32 = 4_294_967_295;

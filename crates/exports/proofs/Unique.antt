@@ -1,0 +1,38 @@
+-- No second outcome fits the promises of the exported calls. Assumes nothing.
+use Prim.Native.Nat.{ℕ}
+use mathlib.Core.Path.{_≡_, refl, sym, _∙_}
+use mathlib.Core.List.{List}
+use lib.IntN.{ℤ}
+use Rattle.districts.specs.Register.{Register}
+use Rattle.districts.specs.Answers.{Answer}
+use Rattle.refusals.specs.Verdicts.{Verdict}
+use Rattle.districts.specs.Lent.{Lists, formed, means}
+use Rattle.districts.proofs.Unique.{both-left}
+use Rattle.fixes.specs.declared.Placed.{Placed}
+use Rattle.exports.specs.Codes.{Code, Tells}
+use Rattle.exports.specs.Counts.{tallyOf}
+use Rattle.exports.specs.Calls.{ToldBy, CountTells, PlaceTells}
+
+pub one-told : (r s : ℕ) (values values′ : List ℕ) (c : Code) → Tells r values c → Tells s values′ c → (r ≡ s) × (values ≡ values′)
+one-told r s values values′ c p q = (p .kind ∙ sym (q .kind), p .values ∙ sym (q .values))
+
+-- two outcomes of one change tell the same and leave the same register
+pub record Same (r s : ℕ) (values values′ : List ℕ) (after after′ : Lists) : Type 0 where
+  pub told : (r ≡ s) × (values ≡ values′)
+  pub meaning : means after ≡ means after′
+  pub form : formed after ≡ formed after′
+
+pub one-change : (v : Verdict) (c : Code) (g : Register) (r s : ℕ) (values values′ : List ℕ) (before after after′ : Lists) → ToldBy v c g r values before after → ToldBy v c g s values′ before after′ → Same r s values values′ after after′
+one-change v c g r s values values′ before after after′ p q =
+    let l = both-left v v refl g before after after′ (p .left) (q .left) in
+    record { told = one-told r s values values′ c (p .tells) (q .tells); meaning = l .0; form = l .1 }
+
+pub one-counted : (r s : ℕ) (values values′ : List ℕ) (a : Answer) (before after after′ : List ℕ) → CountTells r values a before after → CountTells s values′ a before after′ → (r ≡ s) × (values ≡ values′) × (tallyOf after ≡ tallyOf after′)
+one-counted r s values values′ a before after after′ p q =
+    let told = one-told r s values values′ _ (p .tells) (q .tells) in
+    (told .0, told .1, p .tally ∙ sym (q .tally))
+
+pub one-placed : (r s : ℕ) (values values′ : List ℕ) (p : Placed) (before after after′ : List ℤ) → PlaceTells r values p before after → PlaceTells s values′ p before after′ → (r ≡ s) × (values ≡ values′) × (after ≡ after′)
+one-placed r s values values′ p before after after′ t u =
+    let told = one-told r s values values′ _ (t .tells) (u .tells) in
+    (told .0, told .1, t .left ∙ sym (u .left))

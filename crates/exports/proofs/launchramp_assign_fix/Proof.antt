@@ -1,0 +1,19 @@
+-- `exports::launchramp_assign_fix` meets its contract. Assumes nothing.
+use mathlib.Core.Path.{ap}
+use borrow.Author.Needs.{needs}
+use Rattle.exports.specs.Codes.{answerCode}
+use Rattle.exports.proofs.Values.{tells-as}
+use Rattle.exports.proofs.launchramp_assign_fix.Statement.{statement}
+use Rattle.exports.proofs.launchramp_assign_fix.Tie as tie
+
+assign-at-requires : tie.Need-assign-at-requires
+assign-at-requires c κs = search needs
+
+assigned-requires : tie.Need-assigned-requires
+assigned-requires c κs = search needs
+
+returns : tie.Need-returns
+returns c = tells-as (ap answerCode (c .before .before .assign-at .ensures)) (c .assigned .ensures)
+
+pub launchramp-assign-fix-spec : {M : Type 1} → statement M
+launchramp-assign-fix-spec = tie.close (tie.spec assign-at-requires assigned-requires returns)

@@ -1,0 +1,67 @@
+// The tally as a list of counts, raised in place.
+use districts::Assigned;
+use districts::Class;
+use districts::NUMBERS;
+use districts::Report;
+use refusals::Refusal;
+ghost use mathlib.Core.Path.{_≡_};
+ghost use Prim.Native.Nat.{_≤_};
+ghost use lib.ListN.{length};
+ghost use Rattle.districts.specs.Answers.{one, belongs, answerOf};
+ghost use Rattle.exports.specs.Counts.{counts, placeOf, CountedBy};
+
+// The largest number that a count can be.
+const MOST: u32 = 4_294_967_295;
+
+const BORDER: usize = 64;
+
+const NONE: usize = 65;
+
+const SEVERAL: usize = 66;
+
+// How many counts there are: also the place of a class that has none.
+const COUNTS: usize = 67;
+
+fn place_of_one(d: usize) -> usize
+    ensures { λ r. ⌜ r ≡ placeOf (one d) ⌝ }
+{
+    if NUMBERS <= d { COUNTS } else { d }
+}
+
+fn place(c: Class) -> usize
+    ensures { λ r. ⌜ (r ≡ placeOf (belongs c)) × (r ≤ counts) ⌝ }
+{
+    match c {
+        Class::Border(_) => BORDER,
+        Class::One(d) => place_of_one(d),
+        Class::None => NONE,
+        Class::Several(_, _) => SEVERAL,
+    }
+}
+
+fn sorted(report: Report, list: &mut [u32]) -> Assigned
+    requires { ⌜ length (now list) ≡ counts ⌝ }
+    ensures { λ r. ⌜ CountedBy (answerOf (Assigned.Sorted report)) (answerOf r) (now (list .entry)) (now (list .exit)) ⌝ }
+{
+    let class = report.class;
+    let at = place(class);
+    if at == COUNTS {
+        return Assigned::Refused(Refusal::CountFull);
+    }
+    let n = list[at];
+    if n == MOST {
+        return Assigned::Refused(Refusal::CountFull);
+    }
+    list[at] = n + 1;
+    Assigned::Sorted(report)
+}
+
+// Counts an assigned report, and answers it, or refusal 14 where its count is full. A refusal passes through and is not counted.
+pub fn counted(a: Assigned, list: &mut [u32; 67]) -> Assigned
+    ensures { λ r. ⌜ CountedBy (answerOf a) (answerOf r) (now (list .entry)) (now (list .exit)) ⌝ }
+{
+    match a {
+        Assigned::Sorted(report) => sorted(report, list),
+        Assigned::Refused(_) => a,
+    }
+}

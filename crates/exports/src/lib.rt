@@ -1,0 +1,179 @@
+// The calls for programs in other languages: numbers and lent lists only. No call has a `requires`. include/launchramp.h declares them; how
+// an answer is told is in specs/Codes.antt.
+mod counting;
+mod telling;
+
+use fixes::Fix;
+use register::Position;
+ghost use mathlib.Core.Path.{_≡_};
+ghost use Rattle.ring.specs.Locate.{located};
+ghost use Rattle.districts.specs.WellFormed.{wellFormed};
+ghost use Rattle.districts.specs.Lists.{meaning};
+ghost use Rattle.register.specs.Sorting.{assigned};
+ghost use Rattle.fixes.specs.Millimetres.{placed};
+ghost use Rattle.register.specs.Placing.{assignedAt};
+ghost use Rattle.exports.specs.Codes.{placeCode, answerCode, Tells};
+ghost use Rattle.exports.specs.Calls.{FoundTells, SplitTells, MergeTells, CountTells, PlaceTells};
+
+// Where a point lies against one ring.
+#[no_mangle]
+pub extern "C" fn launchramp_locate(ring: &[i32], x: i32, y: i32, values: &mut [u64; 2]) -> u32
+    ensures { λ r. ⌜ Tells r (now (values .exit)) (placeCode (located (now (ring .entry)) x y)) ⌝ }
+{
+    telling::place(ring::locate(ring, x, y), values)
+}
+
+// Whether the three lists are a well-formed register.
+#[no_mangle]
+pub extern "C" fn launchramp_well_formed(outline: &[i32], store: &[i32], runs: &[u32]) -> bool
+    ensures { λ r. ⌜ r ≡ wellFormed (now (outline .entry)) (now (store .entry)) (now (runs .entry)) ⌝ }
+{
+    districts::well_formed(outline, store, runs)
+}
+
+#[no_mangle]
+pub extern "C" fn launchramp_found(
+    outline: &mut [i32],
+    store: &mut [i32],
+    runs: &mut [u32],
+    ring: &[i32],
+    values: &mut [u64; 2],
+) -> u32
+    ensures { λ r. ⌜ FoundTells r (now (values .exit)) (now (ring .entry)) (record { outline = now (outline .entry); store = now (store .entry); runs = now (runs .entry) }) (record { outline = now (outline .exit); store = now (store .exit); runs = now (runs .exit) }) ⌝ }
+{
+    telling::founded(register::found(outline, store, runs, ring), values)
+}
+
+#[no_mangle]
+pub extern "C" fn launchramp_split(
+    outline: &[i32],
+    store: &mut [i32],
+    runs: &mut [u32],
+    d: usize,
+    i: usize,
+    j: usize,
+    path: &[i32],
+    values: &mut [u64; 2],
+) -> u32
+    ensures { λ r. ⌜ SplitTells r (now (values .exit)) d i j (now (path .entry)) (record { outline = now (outline .entry); store = now (store .entry); runs = now (runs .entry) }) (record { outline = now (outline .entry); store = now (store .exit); runs = now (runs .exit) }) ⌝ }
+{
+    telling::changed(changes::split(outline, store, runs, d, i, j, path), values)
+}
+
+#[no_mangle]
+pub extern "C" fn launchramp_merge(
+    outline: &[i32],
+    store: &mut [i32],
+    runs: &mut [u32],
+    kept: usize,
+    a: usize,
+    gone: usize,
+    b: usize,
+    k: usize,
+    values: &mut [u64; 2],
+) -> u32
+    ensures { λ r. ⌜ MergeTells r (now (values .exit)) kept a gone b k (record { outline = now (outline .entry); store = now (store .entry); runs = now (runs .entry) }) (record { outline = now (outline .entry); store = now (store .exit); runs = now (runs .exit) }) ⌝ }
+{
+    telling::changed(
+        changes::merge(outline, store, runs, kept, a, gone, b, k),
+        values,
+    )
+}
+
+// Sorts a report at a point. The caller knows its number.
+#[no_mangle]
+pub extern "C" fn launchramp_assign(
+    outline: &[i32],
+    store: &[i32],
+    runs: &[u32],
+    x: i32,
+    y: i32,
+    values: &mut [u64; 2],
+) -> u32
+    ensures { λ r. ⌜ Tells r (now (values .exit)) (answerCode (assigned (wellFormed (now (outline .entry)) (now (store .entry)) (now (runs .entry))) (meaning (now (outline .entry)) (now (store .entry)) (now (runs .entry))) 0 x y)) ⌝ }
+{
+    telling::assigned(register::assign(outline, store, runs, 0, x, y), values)
+}
+
+// Sorts a report at a point, and counts it in a tally.
+#[no_mangle]
+pub extern "C" fn launchramp_assign_counted(
+    outline: &[i32],
+    store: &[i32],
+    runs: &[u32],
+    x: i32,
+    y: i32,
+    counts: &mut [u32; 67],
+    values: &mut [u64; 2],
+) -> u32
+    ensures { λ r. ⌜ CountTells r (now (values .exit)) (assigned (wellFormed (now (outline .entry)) (now (store .entry)) (now (runs .entry))) (meaning (now (outline .entry)) (now (store .entry)) (now (runs .entry))) 0 x y) (now (counts .entry)) (now (counts .exit)) ⌝ }
+{
+    let answer = register::assign(outline, store, runs, 0, x, y);
+    telling::assigned(counting::counted(answer, counts), values)
+}
+
+// A receiver's fix, in metres, as the millimetres x, y of the grid.
+#[no_mangle]
+pub extern "C" fn launchramp_millimetres(
+    easting: f64,
+    northing: f64,
+    point: &mut [i32; 2],
+    values: &mut [u64; 2],
+) -> u32
+    ensures { λ r. ⌜ PlaceTells r (now (values .exit)) (placed easting northing) (now (point .entry)) (now (point .exit)) ⌝ }
+{
+    telling::placed(fixes::millimetres(Fix { easting, northing }), point, values)
+}
+
+// Sorts a report by a receiver's fix.
+#[no_mangle]
+pub extern "C" fn launchramp_assign_fix(
+    outline: &[i32],
+    store: &[i32],
+    runs: &[u32],
+    easting: f64,
+    northing: f64,
+    values: &mut [u64; 2],
+) -> u32
+    ensures { λ r. ⌜ Tells r (now (values .exit)) (answerCode (assignedAt (wellFormed (now (outline .entry)) (now (store .entry)) (now (runs .entry))) (meaning (now (outline .entry)) (now (store .entry)) (now (runs .entry))) 0 (Position.Fix (record { easting = easting; northing = northing })))) ⌝ }
+{
+    let position = Position::Fix(Fix { easting, northing });
+    telling::assigned(
+        register::assign_at(outline, store, runs, 0, position),
+        values,
+    )
+}
+
+// Sorts a report by a receiver's fix, and counts it in a tally.
+#[no_mangle]
+pub extern "C" fn launchramp_assign_fix_counted(
+    outline: &[i32],
+    store: &[i32],
+    runs: &[u32],
+    easting: f64,
+    northing: f64,
+    counts: &mut [u32; 67],
+    values: &mut [u64; 2],
+) -> u32
+    ensures { λ r. ⌜ CountTells r (now (values .exit)) (assignedAt (wellFormed (now (outline .entry)) (now (store .entry)) (now (runs .entry))) (meaning (now (outline .entry)) (now (store .entry)) (now (runs .entry))) 0 (Position.Fix (record { easting = easting; northing = northing }))) (now (counts .entry)) (now (counts .exit)) ⌝ }
+{
+    let position = Position::Fix(Fix { easting, northing });
+    let answer = register::assign_at(outline, store, runs, 0, position);
+    telling::assigned(counting::counted(answer, counts), values)
+}
+
+// Refuses a report whose position is missing: by 19, or by what comes before it.
+#[no_mangle]
+pub extern "C" fn launchramp_assign_missing(
+    outline: &[i32],
+    store: &[i32],
+    runs: &[u32],
+    values: &mut [u64; 2],
+) -> u32
+    ensures { λ r. ⌜ Tells r (now (values .exit)) (answerCode (assignedAt (wellFormed (now (outline .entry)) (now (store .entry)) (now (runs .entry))) (meaning (now (outline .entry)) (now (store .entry)) (now (runs .entry))) 0 Position.Missing)) ⌝ }
+{
+    telling::assigned(
+        register::assign_at(outline, store, runs, 0, Position::Missing),
+        values,
+    )
+}
