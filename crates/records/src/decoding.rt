@@ -5,7 +5,7 @@ use crate::Front;
 use crate::Sighting;
 use crate::fields;
 use fixes::Fix;
-use positions::Position;
+use register::Position;
 ghost use mathlib.Core.Path.{_≡_};
 ghost use mathlib.Core.List.{List};
 ghost use lib.IntN.{ℤ};

@@ -3,7 +3,7 @@ mod decoding;
 mod fields;
 
 pub use decoding::decode;
-use positions::Position;
+use register::Position;
 
 // A report's number and position.
 pub struct Sighting {
