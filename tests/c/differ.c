@@ -15,34 +15,6 @@
 
 /* ---- locating ---- */
 
-static void append(struct made_list *list, int32_t x, int32_t y)
-{
-    if (list->length + 2 > 2 * PLAIN_MOST_VERTICES)
-        return;
-    list->at[list->length++] = x;
-    list->at[list->length++] = y;
-}
-
-/* The ring once more, forward or backward. */
-static void double_list(struct made_list *list)
-{
-    size_t n = list->length / 2;
-    bool backward = once_in(3);
-    for (size_t i = 0; i < n; i++) {
-        size_t from = backward ? n - 1 - i : i;
-        append(list, list->at[2 * from], list->at[2 * from + 1]);
-    }
-}
-
-/* From the last vertex out to a tip and back, or to itself. */
-static void spike_list(struct made_list *list, struct land land)
-{
-    int32_t x = list->at[list->length - 2], y = list->at[list->length - 1];
-    if (once_in(2))
-        append(list, made_coordinate(land), once_in(2) ? y : made_coordinate(land));
-    append(list, x, y);
-}
-
 static void locate(const struct made_list *ring, struct plain_point r)
 {
     struct call call = {.which = LOCATE, .list = ring->at, .length = ring->length, .x = r.x, .y = r.y};
@@ -65,8 +37,8 @@ static void locate_on_doubled_and_spiked_rings(void)
     made_list_of(&ring, 1 + below(6), land);
     for (size_t t = 0; t < 4; t++) {
         if (once_in(2))
-            double_list(&ring);
-        spike_list(&ring, land);
+            made_double(&ring);
+        made_spike(&ring, land);
         locate(&ring, made_point(ring.at, ring.length, land));
     }
 }
@@ -129,6 +101,7 @@ int main(int count, char **words)
     part("small registers", 2000, live_small);
     part("registers with all numbers in use", 200, live_with_all_numbers_in_use);
     part("registers with a full store", 200, live_with_a_full_store);
+    part("splits that are taken back", 600, live_there_and_back);
     part("reports in metres", 600, report_in_metres);
     damage_registers(100);
     litter_registers(40);

@@ -2,6 +2,9 @@
 #include "lives.h"
 #include "litter.h"
 
+#include <inttypes.h>
+#include <stdio.h>
+#include <stdlib.h>
 #include <string.h>
 
 static struct twice life;
@@ -92,8 +95,49 @@ void live_with_all_numbers_in_use(void)
 void live_with_a_full_store(void)
 {
     struct land land = {1000, 2};
-    begin(land, PLAIN_MOST_VERTICES - below(300));
+    begin(land, once_in(4) ? PLAIN_MOST_VERTICES : PLAIN_MOST_VERTICES - below(300));
     live(land, 60, 5, 2);
+}
+
+static bool turned(const struct plain_ring *ring, const struct plain_ring *before, size_t from)
+{
+    if (ring->n != before->n)
+        return false;
+    for (size_t t = 0; t < ring->n; t++)
+        if (memcmp(&ring->at[t], &before->at[(from + t) % ring->n], sizeof ring->at[t]) != 0)
+            return false;
+    return true;
+}
+
+/* Whether there was a split to take back. */
+static bool split_and_take_back(struct land land)
+{
+    static struct plain_ring before;
+    struct call split = made_call(SPLIT, &life.rows, land);
+    size_t d = split.number[0], n = made_size_of(&life.rows, d);
+    if (n > 0)
+        before = life.rows.district[d];
+    struct plain_answer made = both_ask(&life, &split);
+    if (made.kind != LAUNCHRAMP_DONE)
+        return false;
+    struct call merge = made_merge_back(&split, n, made.first);
+    struct plain_answer kept = both_ask(&life, &merge);
+    if (kept.kind == LAUNCHRAMP_DONE && kept.first == d && turned(&life.rows.district[d], &before, split.number[1]))
+        return true;
+    printf("%s: call %" PRIu64 " did not take back the split before it\n", both_about, both_calls);
+    exit(1);
+}
+
+void live_there_and_back(void)
+{
+    struct land land = made_land();
+    begin(land, few_vertices());
+    live(land, 20, 8, 0);
+    for (int back = 0; back < 10;)
+        if (split_and_take_back(land))
+            back++;
+        else
+            lives_ask(&life, once_in(2) ? SPLIT : MERGE, land);
 }
 
 /* A report on the grid, and again in metres. */

@@ -17,6 +17,10 @@ void lives_make_tally(struct twice *t);
 void live_small(void);
 void live_with_all_numbers_in_use(void);
 void live_with_a_full_store(void);
+
+/* Every accepted split is taken back by a merge, which must be accepted and leave the ring that was split, from its vertex i on. */
+void live_there_and_back(void);
+
 void report_in_metres(void);
 
 #endif

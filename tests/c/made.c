@@ -36,6 +36,32 @@ void made_list_of(struct made_list *list, size_t vertices, struct land land)
         list->at[i] = made_coordinate(land);
 }
 
+static void append(struct made_list *list, int32_t x, int32_t y)
+{
+    if (list->length + 2 > 2 * PLAIN_MOST_VERTICES)
+        return;
+    list->at[list->length++] = x;
+    list->at[list->length++] = y;
+}
+
+void made_double(struct made_list *list)
+{
+    size_t n = list->length / 2;
+    bool backward = once_in(3);
+    for (size_t i = 0; i < n; i++) {
+        size_t from = backward ? n - 1 - i : i;
+        append(list, list->at[2 * from], list->at[2 * from + 1]);
+    }
+}
+
+void made_spike(struct made_list *list, struct land land)
+{
+    int32_t x = list->at[list->length - 2], y = list->at[list->length - 1];
+    if (once_in(2))
+        append(list, made_coordinate(land), once_in(2) ? y : made_coordinate(land));
+    append(list, x, y);
+}
+
 struct plain_point made_point(const int32_t *list, size_t length, struct land land)
 {
     struct plain_point r = {made_coordinate(land), made_coordinate(land)};
@@ -97,13 +123,15 @@ static void spoil_path(void)
         path.at[below(path.length)] = made_beyond();
 }
 
-/* How many points a path has: mostly few; now and then one more than fit in the store, or as many as fit where those are not too many to
- * keep small registers small. */
+/* How many points a path has: mostly few; now and then more than the store has places, one more than fit in it, or as many as fit where those
+ * are not too many to keep small registers small. */
 static size_t path_points(const struct plain_register *g)
 {
     size_t too_many = (PLAIN_MOST_VERTICES - plain_total(g)) / 2;
     if (!once_in(30))
         return below(4);
+    if (once_in(8))
+        return PLAIN_MOST_VERTICES + below(2);
     return once_in(2) || too_many > 200 || too_many == 0 ? too_many + below(2) : too_many - 1;
 }
 
@@ -245,7 +273,11 @@ static struct call make_report(enum which which, const struct plain_register *g,
 
 struct call made_founding(struct land land, size_t vertices)
 {
-    made_list_of(&ring, vertices, land);
+    made_list_of(&ring, once_in(20) ? PLAIN_MOST_VERTICES + 1 : vertices, land);
+    if (once_in(6))
+        made_double(&ring);
+    if (once_in(6))
+        made_spike(&ring, land);
     if (once_in(4))
         ring.length = below(6);
     if (once_in(6))
@@ -273,8 +305,8 @@ struct call made_call(enum which which, const struct plain_register *g, struct l
     }
 }
 
-/* The merge that undoes a split of a district of n vertices: the pieces' border begins at the last vertex of piece one's part of the ring. */
-static struct call merge_back(const struct call *split, size_t n, size_t made)
+/* The pieces' border begins at the last vertex of piece one's part of the ring. */
+struct call made_merge_back(const struct call *split, size_t n, size_t made)
 {
     size_t a = (split->number[2] + n - split->number[1]) % n;
     struct call merge = {.which = MERGE, .number = {split->number[0], a, made, 0, split->length / 2 + 1}, .list = made_no_list};
@@ -292,5 +324,5 @@ void made_remember(const struct call *call, size_t vertices, struct plain_answer
         return;
     made_forget();
     if (call->which == SPLIT)
-        undoing = merge_back(call, vertices, answer.first);
+        undoing = made_merge_back(call, vertices, answer.first);
 }

@@ -42,6 +42,12 @@ int32_t made_coordinate(struct land land);
 int32_t made_beyond(void);
 void made_list_of(struct made_list *list, size_t vertices, struct land land);
 
+/* The ring once more, forward or backward. */
+void made_double(struct made_list *list);
+
+/* From the last vertex out to a tip and back, or to itself. */
+void made_spike(struct made_list *list, struct land land);
+
 /* A point near a list's vertices and edges, or anywhere on the land. */
 struct plain_point made_point(const int32_t *list, size_t length, struct land land);
 
@@ -53,6 +59,9 @@ double made_metres(int32_t millimetres);
 /* The call has arguments that are mostly good for this register. Its lists stay good until the next call is made. */
 struct call made_call(enum which which, const struct plain_register *g, struct land land);
 struct call made_founding(struct land land, size_t vertices);
+
+/* The merge that undoes an accepted split of a district that had so many vertices. */
+struct call made_merge_back(const struct call *split, size_t vertices, size_t made);
 
 /* A call was answered; its district had so many vertices before. Half of the merges that are made next undo the last split. */
 void made_remember(const struct call *call, size_t vertices, struct plain_answer answer);
