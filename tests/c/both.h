@@ -1,5 +1,6 @@
 /* One call to the library and to plain.h, compared: the answer and its values, every byte of the lists where nothing may change, and every
- * ring where something does; then the sums of sums.h too. The first difference is printed with the whole call, and ends the program with status 1. */
+ * ring where something does, and then the sums of sums.h. The first difference is printed with the whole call, and ends the program with status
+ * 1. */
 #ifndef BOTH_H
 #define BOTH_H
 

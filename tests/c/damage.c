@@ -148,10 +148,12 @@ static void gap(struct lists *l, const struct plain_register *g)
     }
 }
 
+/* It ends one place behind the store, anywhere behind it, or lies where it lay but a whole store farther. */
 static void beyond_store(struct lists *l, const struct plain_register *g)
 {
     size_t d = made_district(g), least = PLAIN_MOST_VERTICES + 1 - l->runs[SIZES + d];
-    l->runs[PLACES + d] = (uint32_t)(least + (once_in(3) ? 0 : below(PLAIN_MOST_VERTICES)));
+    const size_t places[] = {least, least + below(PLAIN_MOST_VERTICES), l->runs[PLACES + d] + PLAIN_MOST_VERTICES};
+    l->runs[PLACES + d] = (uint32_t)places[below(LENGTH(places))];
 }
 
 /* Numbers whose sum or double is a good one in 32 bits. */
@@ -310,75 +312,72 @@ static const struct kind {
     {"two numbers of the runs exchanged", exchanged, WITH_DISTRICTS, EITHER},
 };
 
-/* What came of each kind. */
-static struct {
-    uint64_t registers[MAKES], damaged, calls, refused;
-} came[LENGTH(kinds)];
+/* How often each good register is damaged. */
+#define DRAWS 5
+
+/* What came of one kind. */
+struct outcome {
+    uint64_t registers, damaged, calls, refused;
+};
 
 static struct twice good, harmed;
 
-static void fail(const struct kind *kind, enum make make, const char *why)
+static void fail(const struct kind *kind, const char *make, const char *why)
 {
-    printf("%s, %s: %s\n", kind->name, make_names[make], why);
+    printf("%s, %s: %s\n", kind->name, make, why);
     exit(1);
 }
 
 /* Every call; the arguments are made for the register that it was. */
-static void ask_all(const struct kind *kind, enum make make, struct land land)
+static void ask_all(const struct kind *kind, enum make make, struct land land, struct outcome *came)
 {
     for (enum which which = WELL_FORMED; which < CALLS; which++) {
         struct call call = made_call(which, &good.rows, land);
         struct plain_answer answer = both_ask(&harmed, &call);
         bool refused = answer.kind == LAUNCHRAMP_REFUSED && answer.first == NOT_WELL_FORMED;
-        came[kind - kinds].calls++;
-        came[kind - kinds].refused += refused;
         if (kind->known != EITHER && refused != (kind->known == DAMAGED))
-            fail(kind, make, refused ? "a good register was refused by 1" : "a damaged register was taken");
+            fail(kind, make_names[make], refused ? "a good register was refused by 1" : "a damaged register was taken");
+        came->calls++;
+        came->refused += refused;
     }
 }
 
-static void damage_one(const struct kind *kind, enum make make, struct land land)
+static void damage_one(const struct kind *kind, enum make make, struct land land, struct outcome *came)
 {
     both_copy(&harmed.lists, &good.lists);
     kind->done(&harmed.lists, &good.rows);
     both_reread(&harmed);
     lives_make_tally(&harmed);
     if (kind->known != EITHER && harmed.damaged != (kind->known == DAMAGED))
-        fail(kind, make, "plain C takes it otherwise");
-    came[kind - kinds].registers[make]++;
-    came[kind - kinds].damaged += harmed.damaged;
-    ask_all(kind, make, land);
+        fail(kind, make_names[make], "plain C takes it otherwise");
+    came->registers++;
+    came->damaged += harmed.damaged;
+    ask_all(kind, make, land, came);
 }
 
-/* Every kind met every make that can have it; a kind that may do either did both. */
-static void report(const struct kind *kind)
+static void damage_makes(const struct kind *kind, int times, struct outcome *came)
 {
-    uint64_t registers = 0;
-    for (enum make make = FRESH; make < MAKES; make++) {
-        uint64_t met = came[kind - kinds].registers[make];
-        if ((met > 0) != (kind->makes >> make & 1))
-            fail(kind, make, "never asked");
-        registers += met;
-    }
-    uint64_t damaged = came[kind - kinds].damaged;
-    printf("%-44s %9" PRIu64 " calls, 0 differ; %" PRIu64 " registers, refused by 1: %" PRIu64 " calls\n", kind->name,
-           came[kind - kinds].calls, registers, came[kind - kinds].refused);
-    if (kind->known == EITHER && (damaged == 0 || damaged == registers))
-        fail(kind, FRESH, "always or never damage");
+    for (enum make make = FRESH; make < MAKES; make++)
+        for (int t = 0; t < times && kind->makes >> make & 1; t++) {
+            struct land land = made_land();
+            makes_register(&good, make, land);
+            for (int draw = 0; draw < DRAWS; draw++)
+                damage_one(kind, make, land, came);
+        }
 }
 
 void damage_registers(int times)
 {
-    for (enum make make = FRESH; make < MAKES; make++)
-        for (int t = 0; t < times; t++) {
-            struct land land = made_land();
-            makes_register(&good, make, land);
-            for (const struct kind *kind = kinds; kind < kinds + LENGTH(kinds); kind++) {
-                both_about = kind->name;
-                if (kind->makes >> make & 1)
-                    damage_one(kind, make, land);
-            }
-        }
-    for (const struct kind *kind = kinds; kind < kinds + LENGTH(kinds); kind++)
-        report(kind);
+    for (const struct kind *kind = kinds; kind < kinds + LENGTH(kinds); kind++) {
+        struct outcome came = {0, 0, 0, 0};
+        both_about = kind->name;
+        damage_makes(kind, times, &came);
+        if (came.registers == 0)
+            fail(kind, "all makes", "never asked");
+        if (kind->known == EITHER && (came.damaged == 0 || came.damaged == came.registers))
+            fail(kind, "all makes", "always or never damage");
+        printf("%-44s %9" PRIu64 " calls, 0 differ; %" PRIu64 " registers, refused by 1: %" PRIu64 " calls\n", kind->name, came.calls,
+               came.registers, came.refused);
+        fflush(stdout);
+    }
 }

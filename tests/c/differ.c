@@ -103,7 +103,7 @@ int main(int count, char **words)
     part("registers with a full store", 200, live_with_a_full_store);
     part("splits that are taken back", 600, live_there_and_back);
     part("reports in metres", 600, report_in_metres);
-    damage_registers(100);
+    damage_registers(40);
     litter_registers(40);
     tallies_at_their_limits();
     part("tallies of lives", 1000, tallies_of_a_life);

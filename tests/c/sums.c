@@ -8,9 +8,9 @@
 #define POINTS_AFTER_A_CHANGE 4
 
 /* Fewer than these say nothing: points off all rings, those of them that the outline winds about, and those that two districts or more do. */
-#define FEWEST_POINTS 200000
-#define FEWEST_INSIDE 50000
-#define FEWEST_LAYERED 50000
+#define FEWEST_POINTS 500000
+#define FEWEST_INSIDE 100000
+#define FEWEST_LAYERED 100000
 
 static uint64_t asked, inside, layered;
 
@@ -79,8 +79,8 @@ static bool holds_at(const struct lists *l, struct plain_point r)
     layered += inner.many > 1;
     if (inner.sum == outer.sum)
         return true;
-    printf("at %" PRId32 " %" PRId32 " the winding numbers about the districts add up to %" PRId64 ", and that about the outline is %" PRId64 "\n", r.x,
-           r.y, inner.sum, outer.sum);
+    printf("at %" PRId32 " %" PRId32 " the winding numbers about the districts add up to %" PRId64 ", that about the outline is %" PRId64 "\n",
+           r.x, r.y, inner.sum, outer.sum);
     return false;
 }
 

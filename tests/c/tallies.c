@@ -160,7 +160,8 @@ static void ask_strips(void)
     make_strips();
     for (size_t d = 0; d < PLAIN_NUMBERS; d++) {
         const int32_t x = 4 * (int32_t)d;
-        const struct sort one = {x + 2, 2, {LAUNCHRAMP_ONE, d, 0}, d}, border = {x, 2, {LAUNCHRAMP_BORDER, d == 0 ? 0 : d - 1, 0}, LAUNCHRAMP_COUNT_BORDER};
+        const struct sort one = {x + 2, 2, {LAUNCHRAMP_ONE, d, 0}, d};
+        const struct sort border = {x, 2, {LAUNCHRAMP_BORDER, d == 0 ? 0 : d - 1, 0}, LAUNCHRAMP_COUNT_BORDER};
         ask_sort(one);
         ask_sort(border);
     }
@@ -209,7 +210,7 @@ void tallies_of_a_life(void)
     struct land land = made_land();
     uint32_t counts[LAUNCHRAMP_COUNTS] = {0};
     uint64_t accepted = 0, sum = 0;
-    makes_register(&town, FOUNDED + below(MAKES - FOUNDED), land);
+    makes_register(&town, (enum make)(FOUNDED + below(MAKES - FOUNDED)), land);
     memset(town.counts, 0, sizeof town.counts);
     both_retally(&town);
     for (int t = 0; t < 100; t++) {
