@@ -40,7 +40,7 @@ static const uint32_t named[CALLS] = {
     [ASSIGN_MISSING] = REFUSAL(1) | REFUSAL(2) | REFUSAL(19),
 };
 
-static bool same_answer(struct plain_answer one, struct plain_answer other)
+bool both_same(struct plain_answer one, struct plain_answer other)
 {
     return one.kind == other.kind && one.first == other.first && one.second == other.second;
 }
@@ -248,7 +248,7 @@ struct plain_answer both_ask(struct twice *t, const struct call *call)
     got.kind = library_call(t, call, values);
     got.first = values[0];
     got.second = values[1];
-    if (!same_answer(got, expected) || values[LAUNCHRAMP_VALUES] != JUNK)
+    if (!both_same(got, expected) || values[LAUNCHRAMP_VALUES] != JUNK)
         differ(t, call, "the answer", got, expected);
     if (memcmp(lent, call->list, bytes) != 0)
         differ(t, call, "the lent list was changed", got, expected);
@@ -261,7 +261,7 @@ struct plain_answer both_ask(struct twice *t, const struct call *call)
 void both_ask_alike(struct twice *t, const struct call *one, const struct call *other)
 {
     struct plain_answer first = both_ask(t, one), second = both_ask(t, other);
-    if (!same_answer(first, second))
+    if (!both_same(first, second))
         differ(t, other, "from the answer to the call before", second, first);
 }
 

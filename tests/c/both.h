@@ -80,6 +80,8 @@ void both_retally(struct twice *t);
 /* Makes the call; `t` is not needed for LOCATE. The answer is the one that both gave. WELL_FORMED is told as DONE or as refusal 1. */
 struct plain_answer both_ask(struct twice *t, const struct call *call);
 
+bool both_same(struct plain_answer one, struct plain_answer other);
+
 /* Makes two calls that must have the same answer. */
 void both_ask_alike(struct twice *t, const struct call *one, const struct call *other);
 

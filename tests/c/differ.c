@@ -1,6 +1,6 @@
 /* differ [SEED]: the library against plain.c on made calls: rings and points, the lives of registers, damage and litter, tallies, reports in
  * metres. It prints a line for each part, then how often each answer came of each call. Status 1 where anything differs, where a part asked
- * nothing, or where launchramp.h names an answer that never came. */
+ * nothing or sums.h too little, or where launchramp.h names an answer that never came. */
 #include "damage.h"
 #include "litter.h"
 #include "lives.h"
@@ -84,7 +84,7 @@ static void part(const char *name, int times, void (*make)(void))
     both_about = name;
     for (int t = 0; t < times; t++)
         make();
-    printf("%-44s %9" PRIu64 " calls, 0 differ\n", name, both_calls - before);
+    printf("%-44s %9" PRIu64 " calls, 0 differ%s\n", name, both_calls - before, both_calls == before ? " (NOTHING ASKED)" : "");
     fflush(stdout);
     if (both_calls == before)
         exit(1);

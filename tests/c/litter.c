@@ -115,7 +115,7 @@ static void ask_both(struct land land, const char *kind, enum make make)
     for (enum which which = WELL_FORMED; which < CALLS; which++) {
         struct call call = made_call(which, &clean.rows, land);
         struct plain_answer one = both_ask(&clean, &call), other = both_ask(&littered, &call);
-        if (one.kind != other.kind || one.first != other.first || one.second != other.second)
+        if (!both_same(one, other))
             fail(kind, make, "the litter changed an answer");
         if (!same_meaning())
             fail(kind, make, "the litter changed a ring");

@@ -33,8 +33,7 @@ static void fail(size_t count, const char *why)
 
 static void change(struct call call)
 {
-    struct plain_answer answer = both_ask(&town, &call);
-    if (answer.kind != LAUNCHRAMP_DONE)
+    if (both_ask(&town, &call).kind != LAUNCHRAMP_DONE)
         fail(0, "its register was not made");
 }
 
@@ -91,8 +90,7 @@ static void expect(struct call call, struct plain_answer expected, size_t count,
     uint32_t after[LENGTH(town.counts)];
     memcpy(after, town.counts, sizeof after);
     after[count] = n;
-    struct plain_answer answer = both_ask(&town, &call);
-    if (answer.kind != expected.kind || answer.first != expected.first || answer.second != expected.second)
+    if (!both_same(both_ask(&town, &call), expected))
         fail(count, "another answer");
     if (memcmp(after, town.counts, sizeof after) != 0)
         fail(count, "the tally afterwards");
