@@ -56,37 +56,28 @@ void litter_some(struct twice *t)
 
 /* ---- all of the free room, kind by kind ---- */
 
-static size_t litter_outline(struct twice *t)
+static void litter_outline(struct twice *t)
 {
-    size_t from = behind_outline(t);
-    for (size_t i = from; i < LAUNCHRAMP_OUTLINE_LENGTH; i++)
+    for (size_t i = behind_outline(t); i < LAUNCHRAMP_OUTLINE_LENGTH; i++)
         t->lists.outline[i] = no_coordinate();
-    return LAUNCHRAMP_OUTLINE_LENGTH - from;
 }
 
-static size_t litter_store(struct twice *t)
+static void litter_store(struct twice *t)
 {
-    size_t from = behind_rings(t);
-    for (size_t i = from; i < LAUNCHRAMP_STORE_LENGTH; i++)
+    for (size_t i = behind_rings(t); i < LAUNCHRAMP_STORE_LENGTH; i++)
         t->lists.store[i] = no_coordinate();
-    return LAUNCHRAMP_STORE_LENGTH - from;
 }
 
-static size_t litter_places(struct twice *t)
+static void litter_places(struct twice *t)
 {
-    size_t many = 0;
     for (size_t d = 0; d < PLAIN_NUMBERS; d++)
-        if (t->rows.district[d].n == 0) {
+        if (t->rows.district[d].n == 0)
             t->lists.runs[PLACES + d] = no_place(&t->rows);
-            many++;
-        }
-    return many;
 }
 
 static const struct {
     const char *name;
-    /* Answers how many numbers were written. */
-    size_t (*all)(struct twice *t);
+    void (*all)(struct twice *t);
     /* The makes that have such room. */
     unsigned makes;
 } kinds[] = {
@@ -122,7 +113,18 @@ static void ask_both(struct land land, const char *kind, enum make make)
     }
 }
 
-/* How many numbers were written. */
+/* In how many numbers the lists are no longer alike. */
+static size_t numbers_changed(void)
+{
+    const char *one = (const char *)&littered.lists, *other = (const char *)&clean.lists;
+    const size_t number = sizeof littered.lists.runs[0];
+    size_t many = 0;
+    for (size_t at = 0; at < sizeof littered.lists; at += number)
+        many += memcmp(one + at, other + at, number) != 0;
+    return many;
+}
+
+/* Answers how many numbers were changed. */
 static size_t litter_one(size_t kind, enum make make)
 {
     struct land land = made_land();
@@ -130,31 +132,34 @@ static size_t litter_one(size_t kind, enum make make)
     both_copy(&littered.lists, &clean.lists);
     both_reread(&littered);
     littered.by_calls = clean.by_calls;
-    size_t written = kinds[kind].all(&littered);
+    kinds[kind].all(&littered);
     both_remember(&littered);
+    size_t changed = numbers_changed();
     memcpy(littered.counts, clean.counts, sizeof clean.counts);
     both_retally(&littered);
     if (!same_meaning())
         fail(kinds[kind].name, make, "this is no litter");
     for (int t = 0; t < 3; t++)
         ask_both(land, kinds[kind].name, make);
-    return written;
+    return changed;
 }
 
 void litter_registers(int times)
 {
     for (size_t kind = 0; kind < LENGTH(kinds); kind++) {
-        uint64_t before = both_calls, written = 0, registers = 0;
+        uint64_t before = both_calls, changed = 0, registers = 0;
         both_about = kinds[kind].name;
         for (enum make make = FRESH; make < MAKES; make++)
             for (int t = 0; t < times && kinds[kind].makes >> make & 1; t++) {
                 size_t more = litter_one(kind, make);
                 if (more == 0)
-                    fail(kinds[kind].name, make, "there was no free room");
-                written += more;
+                    fail(kinds[kind].name, make, "nothing was littered");
+                changed += more;
                 registers++;
             }
-        printf("%-44s %9" PRIu64 " calls, 0 differ; %" PRIu64 " registers, %" PRIu64 " numbers written\n", kinds[kind].name,
-               both_calls - before, registers, written);
+        if (registers == 0)
+            fail(kinds[kind].name, FRESH, "never asked");
+        printf("%-44s %9" PRIu64 " calls, 0 differ; %" PRIu64 " registers, %" PRIu64 " numbers littered\n", kinds[kind].name,
+               both_calls - before, registers, changed);
     }
 }
