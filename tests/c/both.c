@@ -1,5 +1,6 @@
 /* What both.h promises. */
 #include "both.h"
+#include "sums.h"
 
 #include <inttypes.h>
 #include <stdio.h>
@@ -12,6 +13,7 @@
 #define JUNK 0x5A5A5A5A5A5A5A5Au
 
 uint64_t both_calls;
+const char *both_about = "";
 
 /* Outcomes: the kinds of answer but REFUSED at their numbers, then the refusals. */
 static uint64_t came[CALLS][KINDS + REFUSALS];
@@ -38,7 +40,7 @@ static const uint32_t named[CALLS] = {
     [ASSIGN_MISSING] = REFUSAL(1) | REFUSAL(2) | REFUSAL(19),
 };
 
-static bool same_answer(struct plain_answer one, struct plain_answer other)
+bool both_same(struct plain_answer one, struct plain_answer other)
 {
     return one.kind == other.kind && one.first == other.first && one.second == other.second;
 }
@@ -129,7 +131,7 @@ static void print_call(const struct twice *t, const struct call *call)
 
 static void differ(const struct twice *t, const struct call *call, const char *how, struct plain_answer got, struct plain_answer expected)
 {
-    printf("call %" PRIu64 " differs, %s: ", both_calls, how);
+    printf("%s: call %" PRIu64 " differs, %s: ", both_about, both_calls, how);
     print_call(t, call);
     print_answer("launchramp", got);
     print_answer("plain C", expected);
@@ -225,6 +227,8 @@ static void compare_lists(struct twice *t, const struct call *call, struct plain
     if (changes && got.kind == LAUNCHRAMP_DONE) {
         if (!changed_well(t, call->which))
             differ(t, call, "the lists afterwards", got, expected);
+        if (t->by_calls && !sums_hold(&t->lists))
+            differ(t, call, "the sum of the winding numbers afterwards", got, expected);
         both_remember(t);
     } else if (memcmp(&t->lists, &t->before, sizeof t->lists) != 0) {
         differ(t, call, "a list was changed", got, expected);
@@ -244,7 +248,7 @@ struct plain_answer both_ask(struct twice *t, const struct call *call)
     got.kind = library_call(t, call, values);
     got.first = values[0];
     got.second = values[1];
-    if (!same_answer(got, expected) || values[LAUNCHRAMP_VALUES] != JUNK)
+    if (!both_same(got, expected) || values[LAUNCHRAMP_VALUES] != JUNK)
         differ(t, call, "the answer", got, expected);
     if (memcmp(lent, call->list, bytes) != 0)
         differ(t, call, "the lent list was changed", got, expected);
@@ -257,7 +261,7 @@ struct plain_answer both_ask(struct twice *t, const struct call *call)
 void both_ask_alike(struct twice *t, const struct call *one, const struct call *other)
 {
     struct plain_answer first = both_ask(t, one), second = both_ask(t, other);
-    if (!same_answer(first, second))
+    if (!both_same(first, second))
         differ(t, other, "from the answer to the call before", second, first);
 }
 
@@ -282,5 +286,11 @@ void both_reread(struct twice *t)
     t->damaged = !plain_well_formed(l->outline, l->outline_length, l->store, l->store_length, l->runs, l->runs_length);
     if (!t->damaged)
         plain_read(&t->rows, l->outline, l->store, l->runs);
+    t->by_calls = false;
     both_remember(t);
+}
+
+void both_retally(struct twice *t)
+{
+    memcpy(t->plain_counts, t->counts, sizeof t->counts);
 }

@@ -1,5 +1,6 @@
 /* One call to the library and to plain.h, compared: the answer and its values, every byte of the lists where nothing may change, and every
- * ring where something does. The first difference is printed with the whole call, and ends the program with status 1. */
+ * ring where something does, and then the sums of sums.h. The first difference is printed with the whole call, and ends the program with status
+ * 1. */
 #ifndef BOTH_H
 #define BOTH_H
 
@@ -7,6 +8,10 @@
 
 /* Numbers behind each list that no call may change; a list of a wrong length reaches into them. 7 leaves no padding in struct lists. */
 #define BOTH_SPARE 7
+
+/* Where first places and numbers of vertices begin in the runs. */
+#define PLACES 1
+#define SIZES (1 + PLAIN_NUMBERS)
 
 struct lists {
     size_t outline_length, store_length, runs_length;
@@ -23,6 +28,8 @@ struct twice {
     /* The lists are not well-formed, and `rows` says nothing. */
     bool damaged;
     struct plain_register rows;
+    /* Every ring came by accepted calls, so that the sums of sums.h hold. */
+    bool by_calls;
     uint32_t counts[LAUNCHRAMP_COUNTS + BOTH_SPARE];
     uint32_t plain_counts[LAUNCHRAMP_COUNTS + BOTH_SPARE];
 };
@@ -55,16 +62,25 @@ struct call {
 /* How many calls were made so far. */
 extern uint64_t both_calls;
 
+/* What is being asked about, told with a difference. */
+extern const char *both_about;
+
 void both_copy(struct lists *to, const struct lists *from);
 
-/* The lists were changed from outside: whether they are well-formed, and what they hold, is read anew. */
+/* The lists were changed from outside: whether they are well-formed, and what they hold, is read anew. `by_calls` is false then; a caller who
+ * knows better sets it. */
 void both_reread(struct twice *t);
 
 /* The lists' free room was changed from outside. */
 void both_remember(struct twice *t);
 
+/* The library's tally was changed from outside. */
+void both_retally(struct twice *t);
+
 /* Makes the call; `t` is not needed for LOCATE. The answer is the one that both gave. WELL_FORMED is told as DONE or as refusal 1. */
 struct plain_answer both_ask(struct twice *t, const struct call *call);
+
+bool both_same(struct plain_answer one, struct plain_answer other);
 
 /* Makes two calls that must have the same answer. */
 void both_ask_alike(struct twice *t, const struct call *one, const struct call *other);

@@ -1,6 +1,7 @@
 /* convert [SEED]: launchramp_millimetres against exact.h, on made doubles of every exponent and at every edge of the rounding and of the grid.
  * A value is asked as an easting and as a northing, beside another. It prints a line for each class of values: how many, how many of them are
- * exact halves, what the fixes came to, and how many differ; before it the first that do. Status 1 where any does. */
+ * exact halves, what the fixes came to, and how many differ; before it the first that do. Status 1 where any does, or where a class did not come
+ * to what it must. */
 #include "chance.h"
 #include "plain.h"
 
@@ -272,39 +273,103 @@ static void not_finite_values(void)
         check_both_signs(double_of(NOT_FINITE_FIELD, made_small_fraction()));
 }
 
-static struct value made_value(void)
+/* ---- fixes of two made values ---- */
+
+/* From the smallest doubles to infinities and NaNs. */
+static double any_bits(void)
 {
-    static const double odd[] = {NAN, INFINITY, -INFINITY, 1e300, -1000000.0006, 0.0625};
-    size_t kind = chance_below(&chance, 4), field = LEAST_HALF_FIELD + chance_below(&chance, LIMIT_FIELD + 1 - LEAST_HALF_FIELD);
-    uint64_t bits = chance_next(&chance);
-    if (kind == 0)
-        return value_of(odd[bits % LENGTH(odd)]);
-    if (kind == 1)
-        return value_of(exact_double(bits));
-    return value_of(exact_double(double_of(field, bits % FRACTIONS) | (bits & SIGN)));
+    return exact_double(chance_next(&chance));
 }
 
+/* Up to 2^20 metres, with fractions. */
+static double of_a_town(void)
+{
+    uint64_t field = LEAST_HALF_FIELD + chance_below(&chance, LIMIT_FIELD + 1 - LEAST_HALF_FIELD);
+    return exact_double(double_of(field, made_fraction()));
+}
+
+/* Half way between two millimetres, or the double nearest to that, or one beside it. */
+static double half_way(void)
+{
+    uint64_t odd = 2 * chance_below(&chance, PLAIN_LIMIT) + 1, sixteenths = odd % ((uint64_t)1 << 24);
+    double half = chance_below(&chance, 2) == 0 ? sixteenths / 16.0 : odd / 2000.0;
+    return exact_double(exact_bits(half) + chance_below(&chance, 3) - 1);
+}
+
+/* Round the last millimetre on the grid and the first that is not. */
+static double at_the_limit(void)
+{
+    static const double limits[] = {1000000.0005, 999999.9995, 1000000.0};
+    return exact_double(exact_bits(limits[chance_below(&chance, LENGTH(limits))]) + chance_below(&chance, 19) - 9);
+}
+
+static double not_finite(void)
+{
+    return chance_below(&chance, 2) == 0 ? INFINITY : exact_double(double_of(NOT_FINITE_FIELD, 1 + made_small_fraction() / 2));
+}
+
+static double far_away(void)
+{
+    return exact_double(double_of(LIMIT_FIELD + 1 + chance_below(&chance, NOT_FINITE_FIELD - LIMIT_FIELD - 1), made_fraction()));
+}
+
+static double (*const kinds[])(void) = {any_bits, of_a_town, half_way, at_the_limit, not_finite, far_away};
+
+static struct value made_value(size_t kind)
+{
+    double metres = kinds[kind]();
+    return value_of(chance_below(&chance, 2) == 0 ? -metres : metres);
+}
+
+/* Every kind beside every kind. */
 static void made_fixes(void)
 {
-    for (int t = 0; t < 300000; t++) {
-        struct value easting = made_value();
-        struct value northing = made_value();
-        came.values += 2;
-        came.halves += easting.exact.half + northing.exact.half;
-        ask(&easting, &northing);
-    }
+    for (size_t pair = 0; pair < LENGTH(kinds) * LENGTH(kinds); pair++)
+        for (int t = 0; t < 20000; t++) {
+            struct value easting = made_value(pair / LENGTH(kinds)), northing = made_value(pair % LENGTH(kinds));
+            came.values += 2;
+            came.halves += easting.exact.half + northing.exact.half;
+            ask(&easting, &northing);
+        }
 }
 
 /* ---- all classes ---- */
 
 static uint64_t all_values, all_differ;
 
-static void try_class(const char *name, void (*make)(void))
+/* What the values of a class must come to. */
+enum { HALVES = 1, PLACED = 2, BEYOND = 4, NO_NUMBER = 8 };
+
+static const struct class {
+    const char *name;
+    void (*make)(void);
+    unsigned must;
+} classes[] = {
+    {"known values", known_values, HALVES | PLACED | BEYOND},
+    {"every exponent", every_exponent, HALVES | PLACED | BEYOND},
+    {"every exponent on the grid", every_exponent_on_the_grid, PLACED | BEYOND},
+    {"exact halves, beside them", exact_halves, HALVES | PLACED | BEYOND},
+    {"nearly halves", nearly_halves, PLACED | BEYOND},
+    {"subnormals", subnormals, PLACED},
+    {"the grid's limits", limits_of_the_grid, PLACED | BEYOND},
+    {"far values", far_values, BEYOND},
+    {"points of the grid in metres", points_in_metres, PLACED},
+    {"not finite", not_finite_values, PLACED | BEYOND | NO_NUMBER},
+    {"made fixes", made_fixes, HALVES | PLACED | BEYOND | NO_NUMBER},
+};
+
+static void try_class(const struct class *class)
 {
     memset(&came, 0, sizeof came);
-    make();
+    class->make();
+    unsigned met = (came.halves > 0 ? HALVES : 0) | (came.placed > 0 ? PLACED : 0) | (came.beyond > 0 ? BEYOND : 0) |
+                   (came.not_finite > 0 ? NO_NUMBER : 0);
+    if ((met & class->must) != class->must) {
+        printf("  not asked all that it must be\n");
+        came.differ++;
+    }
     printf("%-30s %7" PRIu64 " values, %6" PRIu64 " halves; fixes: %7" PRIu64 " placed, %7" PRIu64 " [5], %5" PRIu64 " [18]; %" PRIu64 " differ\n",
-           name, came.values, came.halves, came.placed, came.beyond, came.not_finite, came.differ);
+           class->name, came.values, came.halves, came.placed, came.beyond, came.not_finite, came.differ);
     fflush(stdout);
     all_values += came.values;
     all_differ += came.differ;
@@ -314,17 +379,8 @@ int main(int count, char **words)
 {
     chance.state = count > 1 ? (uint64_t)atoll(words[1]) : DEFAULT_SEED;
     make_beside();
-    try_class("known values", known_values);
-    try_class("every exponent", every_exponent);
-    try_class("every exponent on the grid", every_exponent_on_the_grid);
-    try_class("exact halves, beside them", exact_halves);
-    try_class("nearly halves", nearly_halves);
-    try_class("subnormals", subnormals);
-    try_class("the grid's limits", limits_of_the_grid);
-    try_class("far values", far_values);
-    try_class("points of the grid in metres", points_in_metres);
-    try_class("not finite", not_finite_values);
-    try_class("made fixes", made_fixes);
+    for (size_t i = 0; i < LENGTH(classes); i++)
+        try_class(&classes[i]);
     printf("%" PRIu64 " values of metres, %" PRIu64 " differ\n", all_values, all_differ);
     return all_differ == 0 ? 0 : 1;
 }
