@@ -3,14 +3,14 @@
 mod packing;
 mod runs;
 
+use refusals::Refusal;
+use refusals::Verdict;
 pub use runs::FIRST_PLACES;
 pub use runs::SIZES;
 pub use runs::first_place;
 pub use runs::outline_size;
 pub use runs::size;
 pub use runs::total;
-use refusals::Refusal;
-use refusals::Verdict;
 ghost use mathlib.Core.Path.{_≡_};
 ghost use mathlib.Core.Bool.{not, _&&_};
 ghost use Prim.Native.Nat.{_+_, _≤_};

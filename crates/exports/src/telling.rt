@@ -7,7 +7,6 @@ use refusals::Refusal;
 use register::Founded;
 use ring::Located;
 use ring::Winding;
-ghost use mathlib.Core.Path.{_≡_};
 ghost use Rattle.ring.specs.Locate.{placeOf};
 ghost use Rattle.refusals.specs.Numbers.{numberOf};
 ghost use Rattle.districts.specs.Answers.{belongs, answerOf};

@@ -5,9 +5,8 @@ use mathlib.Core.Bool.{true}
 use mathlib.Core.List.{List, _++_}
 use borrow.Author.Tests.{not-false}
 use Rattle.refusals.specs.declared.Verdict as Code
-use Rattle.refusals.specs.declared.Verdict.the-variants.{Accepted, Refused}
-use Rattle.refusals.specs.Numbers.{numberOf}
-use Rattle.refusals.specs.Verdicts.{Test, Verdict, accept, refuse, verdict, verdictOf}
+use Rattle.refusals.specs.declared.Verdict.the-variants.{Accepted}
+use Rattle.refusals.specs.Verdicts.{Test, Verdict, refuse, verdict, verdictOf}
 use Rattle.refusals.proofs.Verdicts.{accepted, stops-early, passes-first}
 use Rattle.districts.specs.Lent.{Lists, formed, means, beginning}
 

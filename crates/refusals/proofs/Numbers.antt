@@ -1,15 +1,11 @@
--- No two refusals have the same number, and no two verdicts of the code say the same. Assumes nothing.
-use Prim.Native.Nat.{ℕ, zero, suc}
-use native.Mathlib.Omega.{arith}
+-- No two refusals have the same number. Assumes nothing.
+use Prim.Native.Nat.{ℕ}
 use mathlib.Core.Path.{_≡_, refl, sym, ap, _∙_}
 use mathlib.Core.List.{List, [], _∷_}
 use lib.ListN.{getD}
 use Rattle.refusals.specs.declared.Refusal.{Refusal}
 use Rattle.refusals.specs.declared.Refusal.the-variants.{NotWellFormed, NoOutline, OutlineThere, NoRing, BeyondGrid, BadNumber, SameDistrict, BadIndex, TooFew, NoMatch, NumbersInUse, NoRoom, BrokenRecord, CountFull, NotFinite, Missing}
-use Rattle.refusals.specs.declared.Verdict as Code
-use Rattle.refusals.specs.declared.Verdict.the-variants.{Accepted, Refused}
 use Rattle.refusals.specs.Numbers.{numberOf}
-use Rattle.refusals.specs.Verdicts.{verdictOf}
 
 -- the refusals by their numbers, from 0 on; Missing stands for the numbers that no refusal has
 abbrev byNumber : List Refusal

@@ -1,6 +1,6 @@
 -- A report's position is one of three, and where a report with it belongs. Assumes nothing.
 use Prim.Native.Nat.{ℕ}
-use mathlib.Core.Bool.{Bool, true, false, not, _&&_, _||_}
+use mathlib.Core.Bool.{Bool, true, false, not, _&&_}
 use mathlib.Core.List.{List, _∷_, _++_}
 use lib.IntN.{ℤ, pos}
 use Rattle.ring.specs.Grid.{point}

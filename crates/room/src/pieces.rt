@@ -75,7 +75,15 @@ fn write_back(to: &mut [i32], path: &[i32], k: usize)
 }
 
 // The c vertices of a ring of n from vertex i on, then a path of k points from its last to its first.
-pub fn write_run_and_path(to: &mut [i32], ring: &[i32], n: usize, i: usize, c: usize, path: &[i32], k: usize)
+pub fn write_run_and_path(
+    to: &mut [i32],
+    ring: &[i32],
+    n: usize,
+    i: usize,
+    c: usize,
+    path: &[i32],
+    k: usize,
+)
     requires { ⌜ length (now ring) ≡ n + n ⌝ }
     requires { ⌜ i ≤ n ⌝ }
     requires { ⌜ c ≤ n ⌝ }

@@ -7,8 +7,8 @@ ghost use Rattle.tally.specs.Tally.{fresh, raising, onesOf, tallied, ans
 use districts::Assigned;
 use districts::Class;
 use districts::NUMBERS;
-use refusals::Refusal;
 use districts::Report;
+use refusals::Refusal;
 
 const MOST: u32 = 4_294_967_295;
 

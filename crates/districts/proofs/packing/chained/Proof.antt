@@ -2,7 +2,7 @@
 -- one place. Assumes nothing.
 use Prim.Native.Nat.{_+_, _-_}
 use native.Mathlib.Omega.{arith}
-use mathlib.Core.Path.{_≡_, sym, ap, _∙_}
+use mathlib.Core.Path.{_≡_, sym, ap}
 use lib.ListN.{getD}
 use borrow.Author.Needs.{needs}
 use Rattle.districts.specs.Lists.{firstPlace, size}

@@ -1,9 +1,7 @@
 -- `judging::splits::judge_district` asks whether the number is in use, then for the rest. Assumes nothing.
 use Prim.Native.Nat.{_≤_}
 use native.Mathlib.Omega.{arith}
-use mathlib.Core.Path.{_≡_, sym, _∙_}
-use mathlib.Core.Bool.{not}
-use lib.Dec.{eqb}
+use mathlib.Core.Path.{sym, _∙_}
 use borrow.Author.Needs.{needs}
 use borrow.Author.Tests.{not-true, not-false}
 use Rattle.refusals.specs.Verdicts.{verdict}

@@ -1,7 +1,7 @@
 -- `register::founding::found` writes where nothing is refused, and otherwise leaves the lists. Assumes nothing.
 use Prim.Native.Nat.{_/_}
 use native.Mathlib.Omega.{arith}
-use mathlib.Core.Path.{_≡_, refl, sym, ap, subst, _∙_}
+use mathlib.Core.Path.{_≡_, refl, sym, ap, _∙_}
 use mathlib.Core.Bool.{true, false}
 use mathlib.Core.List.{List}
 use lib.IntN.{ℤ}
@@ -12,13 +12,12 @@ use Rattle.ring.specs.Grid.{noRing, someBeyond}
 use Rattle.districts.specs.Lists.{outlineSize}
 use Rattle.districts.proofs.Sound.{outline-length, store-length, runs-length}
 use Rattle.refusals.specs.declared.Refusal.{Refusal}
-use Rattle.register.specs.declared.Founded.{Founded}
 use Rattle.register.specs.declared.Founded.the-variants.{Done, Refused}
 use Rattle.refusals.specs.Numbers.{numberOf}
 use Rattle.refusals.specs.Verdicts.{accept, refuse, verdict, verdictOf}
-use Rattle.register.specs.Founding.{foundTests, founded}
-use Rattle.register.specs.Calls.{outcomeOf, Wrote, FoundBy}
-use Rattle.districts.specs.Lent.{Lists, formed, means, Leaves}
+use Rattle.register.specs.Founding.{foundTests}
+use Rattle.register.specs.Calls.{Wrote, FoundBy}
+use Rattle.districts.specs.Lent.{Lists, formed, means}
 use Rattle.districts.proofs.Lent.{outline-in-use}
 use Rattle.refusals.proofs.Verdicts.{accepted}
 use Rattle.register.proofs.Founds.{left-well-formed, left-meaning, room-for}

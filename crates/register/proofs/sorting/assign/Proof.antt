@@ -4,7 +4,6 @@ use mathlib.Core.Bool.{Bool, true}
 use mir.Facts.{toZ-ofZ}
 use borrow.Author.Needs.{needs}
 use borrow.Author.Tests.{not-false}
-use Rattle.refusals.specs.declared.Verdict.{Verdict}
 use Rattle.refusals.specs.Verdicts.{accept, verdict, verdictOf}
 use Rattle.refusals.proofs.Verdicts.{accepted}
 use Rattle.ring.specs.Grid.{point}
