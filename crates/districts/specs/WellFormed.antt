@@ -5,7 +5,7 @@ use mathlib.Core.List.{List}
 use lib.Dec.{eqb, leb}
 use lib.IntN.{ℤ}
 use lib.ListN.{length}
-use Rattle.ring.specs.Grid.{someBeyond}
+use Rattle.ring.specs.Grid.{someBeyond, fewestVertices, mostVertices}
 use Rattle.districts.specs.Counts.{allTo, sumTo}
 use Rattle.districts.specs.Register.{numbers}
 use Rattle.districts.specs.Lists.{outlineSize, firstPlace, size, part}
@@ -16,7 +16,7 @@ shaped outline store runs = eqb (length outline) 4096 && (eqb (length store) 409
 
 -- none, or a ring of 3 to 2,048 vertices
 abbrev pub sized : ℕ → Bool
-sized n = eqb n 0 || (leb 3 n && leb n 2048)
+sized n = eqb n 0 || (leb fewestVertices n && leb n mostVertices)
 
 -- how many vertices all districts have
 abbrev pub total : List ℕ → ℕ
@@ -38,7 +38,7 @@ packed runs = allTo numbers (inside runs (total runs)) && allTo numbers (λ d. a
 
 -- the sizes are allowed, all districts have at most 2,048 vertices, and there are none without an outline
 abbrev pub counted : List ℕ → Bool
-counted runs = (sized (outlineSize runs) && allTo numbers (λ d. sized (size runs d))) && (leb (total runs) 2048 && (leb 1 (outlineSize runs) || eqb (total runs) 0))
+counted runs = (sized (outlineSize runs) && allTo numbers (λ d. sized (size runs d))) && (leb (total runs) mostVertices && (leb 1 (outlineSize runs) || eqb (total runs) 0))
 
 -- every coordinate of the outline and of the districts is on the grid
 abbrev pub onGrid : List ℤ → List ℤ → List ℕ → Bool

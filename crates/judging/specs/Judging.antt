@@ -7,7 +7,7 @@ use lib.Dec.{eqb, leb, ltb}
 use lib.IntN.{ℤ}
 use lib.ListN.{length}
 use Rattle.ring.specs.declared.Point.{Point}
-use Rattle.ring.specs.Grid.{someBeyond}
+use Rattle.ring.specs.Grid.{someBeyond, fewestVertices, mostVertices}
 use Rattle.ring.specs.Locate.{lowest}
 use Rattle.districts.specs.Register.{Slot, inUse, verticesOf}
 use Rattle.districts.specs.Lists.{size}
@@ -23,9 +23,9 @@ lowestFree runs = lowest (λ d. eqb (size runs d) 0) 64 0
 -- refusals 9, 11, 12, of a ring of n vertices, `all` vertices in all and `free` the lowest unused number
 abbrev pub pieceTests : ℕ → ℕ → ℕ → ℕ → ℕ → List ℤ → List Test
 pieceTests n all free i j path =
-    (9 if ltb (suc (steps n i j) + length path / 2) 3 || ltb (suc (steps n j i) + length path / 2) 3)
+    (9 if ltb (suc (steps n i j) + length path / 2) fewestVertices || ltb (suc (steps n j i) + length path / 2) fewestVertices)
     ∷ (11 if leb 64 free)
-    ∷ (12 if ltb 2048 (all + 2 + length path))
+    ∷ (12 if ltb mostVertices (all + 2 + length path))
     ∷ []
 
 -- refusals 8, 4, 5, then those
@@ -45,7 +45,7 @@ abbrev pub borderTests : List Point → ℕ → List Point → ℕ → ℕ → L
 borderTests P a Q b k =
     (8 if leb (length P) a || leb (length Q) b)
     ∷ (10 if (eqb k 0 || (leb (length P) k || leb (length Q) k)) || not (matches P a Q b k))
-    ∷ (9 if ltb (length (merged P a Q b k)) 3)
+    ∷ (9 if ltb (length (merged P a Q b k)) fewestVertices)
     ∷ []
 
 -- refusals 6, 7, of the slots of numbers A and B, then those

@@ -5,6 +5,7 @@ use mathlib.Core.List.{List, [], _∷_, _++_}
 use lib.Dec.{eqb, leb, ltb}
 use lib.ListN.{length}
 use Rattle.ring.specs.declared.Point.{Point}
+use Rattle.ring.specs.Grid.{fewestVertices}
 use Rattle.ring.specs.Rings.{at}
 use Rattle.ring.specs.Segment.{same}
 use Rattle.districts.specs.Counts.{allTo}
@@ -29,7 +30,7 @@ mergeTests wellFormed g A a B b k =
     ∷ (7 if eqb A B)
     ∷ (8 if leb (length P) a || leb (length Q) b)
     ∷ (10 if (eqb k 0 || (leb (length P) k || leb (length Q) k)) || not (matches P a Q b k))
-    ∷ (9 if ltb (length (merged P a Q b k)) 3)
+    ∷ (9 if ltb (length (merged P a Q b k)) fewestVertices)
     ∷ []
   where
     P : List Point

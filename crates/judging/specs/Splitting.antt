@@ -6,7 +6,7 @@ use lib.Dec.{eqb, leb, ltb}
 use lib.IntN.{ℤ}
 use lib.ListN.{length}
 use Rattle.ring.specs.declared.Point.{Point}
-use Rattle.ring.specs.Grid.{vertices, someBeyond}
+use Rattle.ring.specs.Grid.{vertices, someBeyond, fewestVertices, mostVertices}
 use Rattle.ring.specs.Locate.{lowest}
 use Rattle.districts.specs.Counts.{sumTo}
 use Rattle.districts.specs.Lent.{beginning}
@@ -38,9 +38,9 @@ splitTests wellFormed g d i j path =
     ∷ (8 if (leb n i || leb n j) || eqb i j)
     ∷ (4 if eqb (length path % 2) 1)
     ∷ (5 if someBeyond path)
-    ∷ (9 if ltb (length (pieceOne P i j W)) 3 || ltb (length (pieceTwo P i j W)) 3)
+    ∷ (9 if ltb (length (pieceOne P i j W)) fewestVertices || ltb (length (pieceTwo P i j W)) fewestVertices)
     ∷ (11 if leb numbers (lowestUnused g))
-    ∷ (12 if ltb 2048 (vertexCount g + 2 + length path))
+    ∷ (12 if ltb mostVertices (vertexCount g + 2 + length path))
     ∷ []
   where
     P : List Point

@@ -9,7 +9,8 @@ use lib.Ieee.{binary64, toBits, fits}
 use Rattle.register.specs.declared.Position.{Position}
 use Rattle.register.specs.declared.Position.the-variants.{Grid, Fix, Missing}
 use Rattle.history.specs.Histories.{Call, founding, splitting, merging, reporting}
-use Rattle.records.specs.Layout.{firstMark, secondMark, mostAnnounced}
+use Rattle.ring.specs.Grid.{mostVertices}
+use Rattle.records.specs.Layout.{firstMark, secondMark}
 
 -- a number in so many bytes, the least first
 unfoldable pub inFront : ℕ → ℕ → List ℕ → List ℕ
@@ -59,7 +60,7 @@ AllFit (x ∷ xs) = Fits x × AllFit xs
 -- a list of pairs that a record may announce
 pub record Pairs (xs : List ℤ) : Type 0 where
   pub even : length xs % 2 ≡ 0
-  pub most : length xs / 2 ≤ mostAnnounced
+  pub most : length xs / 2 ≤ mostVertices
   pub fit : AllFit xs
 
 -- a grid position of 32 signed bits, or a fix of doubles

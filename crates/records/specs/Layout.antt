@@ -7,6 +7,7 @@ use lib.ListN.{length}
 use lib.Ieee.{Float, binary64, ofBits}
 use Rattle.ring.specs.Choices.{pick}
 use Rattle.register.specs.declared.Position.the-variants.{Grid, Fix, Missing}
+use Rattle.ring.specs.Grid.{mostVertices}
 use Rattle.history.specs.Histories.{Call, founding, splitting, merging, reporting}
 use Rattle.records.specs.Bytes.{field, signed, signedFields}
 
@@ -23,9 +24,6 @@ firstMark = 79
 abbrev pub secondMark : ℕ
 secondMark = 71
 
-abbrev pub mostAnnounced : ℕ
-mostAnnounced = 2048
-
 -- more bytes are needed until there are so many
 abbrev pub from : List ℕ → ℕ → Front → Front
 from bytes n f = pick (ltb (length bytes) n) more f
@@ -36,7 +34,7 @@ upTo bytes n c = from bytes n (whole c n)
 
 -- kind 1, outline: n (16 bits), n pairs of signed 32-bit x, y
 abbrev pub outlineFront : List ℕ → Front
-outlineFront bytes = from bytes 5 (pick (ltb mostAnnounced n) broken (upTo bytes (5 + 8 * n) (founding (signedFields bytes 5 (2 * n)))))
+outlineFront bytes = from bytes 5 (pick (ltb mostVertices n) broken (upTo bytes (5 + 8 * n) (founding (signedFields bytes 5 (2 * n)))))
   where
     n : ℕ
     n = field bytes 3 2
@@ -44,7 +42,7 @@ outlineFront bytes = from bytes 5 (pick (ltb mostAnnounced n) broken (upTo bytes
 -- kind 2, split: d (8), i, j, k (16 each), k pairs
 abbrev pub splitFront : List ℕ → Front
 splitFront bytes =
-    from bytes 10 (pick (ltb mostAnnounced k) broken (upTo bytes (10 + 8 * k) (splitting (field bytes 3 1) (field bytes 4 2) (field bytes 6 2) (signedFields bytes 10 (2 * k)))))
+    from bytes 10 (pick (ltb mostVertices k) broken (upTo bytes (10 + 8 * k) (splitting (field bytes 3 1) (field bytes 4 2) (field bytes 6 2) (signedFields bytes 10 (2 * k)))))
   where
     k : ℕ
     k = field bytes 8 2

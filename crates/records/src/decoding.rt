@@ -39,9 +39,6 @@ const MERGE: usize = 11;
 
 const FIX: usize = 24;
 
-// The most vertices or points that a record may announce.
-const MOST: usize = 2048;
-
 fn nothing(front: Front) -> Decoded
     ensures { λ r. ⌜ (r .front ≡ front) × (r .taken ≡ 0) ⌝ }
 {
@@ -56,7 +53,7 @@ fn outline(bytes: &[u8], to: &mut [i32]) -> Decoded
         return nothing(Front::More);
     }
     let n = fields::two(bytes, HEAD);
-    if MOST < n {
+    if ring::MOST_VERTICES < n {
         return nothing(Front::Broken);
     }
     let taken = OUTLINE_HEAD + PAIR * n;
@@ -78,7 +75,7 @@ fn split(bytes: &[u8], to: &mut [i32]) -> Decoded
         return nothing(Front::More);
     }
     let k = fields::two(bytes, 8);
-    if MOST < k {
+    if ring::MOST_VERTICES < k {
         return nothing(Front::Broken);
     }
     let taken = SPLIT_HEAD + PAIR * k;

@@ -25,6 +25,13 @@ vertices [] = []
 vertices (x ∷ []) = []
 vertices (x ∷ y ∷ xs) = point x y ∷ vertices xs
 
+-- the fewest and the most vertices of a ring; all districts together have at most as many
+abbrev pub fewestVertices : ℕ
+fewestVertices = 3
+
+abbrev pub mostVertices : ℕ
+mostVertices = 2048
+
 -- a list of m numbers that makes no ring: m is odd, or the m / 2 vertices are fewer than 3 or more than 2,048
 abbrev pub noRing : ℕ → ℕ → Bool
-noRing m n = eqb (m % 2) 1 || (ltb n 3 || ltb 2048 n)
+noRing m n = eqb (m % 2) 1 || (ltb n fewestVertices || ltb mostVertices n)
