@@ -3,12 +3,14 @@ use Prim.Native.Nat.{ℕ, _+_, _-_, _≤_}
 use native.Mathlib.Omega.{arith}
 use mathlib.Core.Path.{_≡_}
 use mathlib.Core.List.{List, _++_}
+use lib.IntN.{ℤ}
 use lib.ListN.{length, take, drop, length-drop}
 use lib.Seq.{take-at, length-take-le, paste}
 use Rattle.register.specs.Calls.{Lists}
 use Rattle.stream.specs.declared.Page.{Page}
 use Rattle.stream.specs.Desks.{Desk}
 use Rattle.stream.specs.Printing.{Printed}
+use Rattle.stream.proofs.Pages.{printed-few}
 use Rattle.group.specs.declared.Reading.{Reading}
 use Rattle.group.specs.Held.{piece, Kept, Held}
 
@@ -30,11 +32,11 @@ pub record Within (d : Reading) (p : Page) : Type 0 where
 part-long : (d : Reading) (input : List ℕ) → Kept d input → length (take (d .end - d .at) (drop (d .at) input)) ≡ d .end - d .at
 part-long d input kept = length-take-le (d .end - d .at) (drop (d .at) input) (omega (arith, kept .taken, kept .there, length-drop (d .at) input))
 
-pub printed-within : (d : Reading) (input : List ℕ) (l : Lists) (k : Desk) (to : List ℕ) (p : Page) (l′ : Lists) (to′ : List ℕ) → Held d input l → Printed (take (d .end - d .at) (drop (d .at) input)) k (d .records) to p l′ to′ → Within d p
-printed-within d input l k to p l′ to′ held printed =
+pub printed-within : (d : Reading) (input : List ℕ) (l : Lists) (k : Desk) (list : List ℤ) (to : List ℕ) (p : Page) (l′ : Lists) (list′ : List ℤ) (to′ : List ℕ) → Held d input l → Printed (take (d .end - d .at) (drop (d .at) input)) k (d .records) list to p l′ list′ to′ → Within d p
+printed-within d input l k list to p l′ list′ to′ held printed =
     let long = part-long d input (held .kept) in
     record {
       at = omega (arith, long, printed .there, held .kept .taken);
       small = omega (arith, held .kept .there, held .long);
-      records = omega (arith, long, printed .there, printed .few, printed .records, held .kept .there, held .long);
+      records = omega (arith, long, printed .there, printed-few _ _ _ _ _ _ _ _ _ printed, printed .records, held .kept .there, held .long);
     }

@@ -9,7 +9,7 @@ abbrev start : tie.After-print → tie.Start
 start called = called .before .before .before .before .before .before .before .before .before .before .before
 
 within : (called : tie.After-print) → Within (start called .args .d) (called .print .result)
-within called = let s = start called in printed-within (s .args .d) (s .args .input .now) _ _ _ (called .print .result) _ _ (s .pre) (called .print .ensures .0)
+within called = let s = start called in printed-within (s .args .d) (s .args .input .now) _ _ _ _ (called .print .result) _ _ _ (s .pre) (called .print .ensures .0)
 
 sub-print : tie.Need-sub-print
 sub-print c = search needs
