@@ -9,5 +9,10 @@ ghost use Rattle.tally.specs.Tally.{tallied, answered};
 pub fn counted(tally: Tally, answer: Assigned) -> Outcome
     ensures { λ r. ⌜ (r .tally ≡ tallied tally (answerOf answer)) × (answerOf (r .answer) ≡ answered tally (answerOf answer)) ⌝ }
 {
-    tally::counted(tally, answer)
+    let mut kept = tally;
+    let given = tally::count(&mut kept, answer);
+    Outcome {
+        tally: kept,
+        answer: given,
+    }
 }
