@@ -5,7 +5,7 @@ use native.Mathlib.Nat.{zero-add}
 use native.Mathlib.Omega.{arith}
 use native.Mathlib.Decide.{decLt}
 use mathlib.Core.Path.{_≡_, refl, sym, ap, subst, _∙_}
-use mathlib.Core.Bool.{Bool, true}
+use mathlib.Core.Bool.{true}
 use mathlib.Core.List.{List, [], _∷_, _++_, append-assoc, append-nil}
 use lib.Dec.{ltb}
 use lib.ListN.{length, take, drop, length-append}
@@ -15,7 +15,6 @@ use Rattle.ring.specs.declared.Point.{Point}
 use Rattle.ring.specs.Rings.{Weight, Antisymmetric}
 use Rattle.districts.specs.Register.{Register}
 use Rattle.register.specs.Calls.{formed, means}
-use Rattle.tally.specs.declared.Tally.{Tally}
 use Rattle.tally.specs.Tally.{fresh, sum, run, accepted}
 use Rattle.tally.proofs.Totals.{sum-counts}
 use Rattle.history.specs.Histories.{Call, founding, splitting, merging, reporting, empty, after}

@@ -1,5 +1,8 @@
 -- `tally::raise` meets its contract: the test is the definition's own. Assumes nothing.
+use native.Mathlib.Omega.{arith}
 use mathlib.Core.Path.{_∙_}
+use mir.Syntax.{w32}
+use mir.Val.{Fits}
 use borrow.Author.Needs.{needs}
 use Rattle.districts.specs.Answers.{belongs}
 use Rattle.tally.proofs.Raising.{full-refused, has-count, counted-more}
@@ -16,7 +19,9 @@ returns c =
     full-refused (a .t) (a .report .number) (belongs (a .report .class)) _ (read .count-of .ensures) (c .if1 .taken)
 
 add-with-count : tie.Need-add-with-count
-add-with-count c = search needs
+add-with-count c =
+    let fits : Fits w32 (c .before .count-of .result) = search needs in
+    record { fits = omega (arith, fits .fits, c .if1 .left) }
 
 with-count-requires : tie.Need-with-count-requires
 with-count-requires c κs =
