@@ -8,12 +8,11 @@ use tally::Tally;
 use wording::Kind;
 use wording::Said;
 ghost use mathlib.Core.Path.{_≡_};
-ghost use mathlib.Core.Bool.{true};
 ghost use Prim.Native.Nat.{_+_, _≤_};
 ghost use lib.ListN.{length, take, drop};
 ghost use lib.Seq.{paste};
-ghost use Rattle.register.specs.Calls.{formed};
-ghost use Rattle.group.specs.Held.{piece, Kept, Refilled, Held, Turned};
+ghost use Rattle.history.specs.Turns.{Fresh};
+ghost use Rattle.group.specs.Held.{piece, Kept, Refilled, Held, Turned, Went};
 
 // How long the two buffers are: several times the longest record.
 const PIECE: usize = 65_536;
@@ -95,7 +94,7 @@ fn refilled(input: &mut [u8], d: Reading) -> Reading
 
 // The reading ended, by a broken record or because nothing more can be written.
 fn ended(d: Reading, broken: bool) -> Reading
-    ensures { λ r. ⌜ (r .at ≡ d .at) × (r .end ≡ d .end) × (r .records ≡ d .records) ⌝ }
+    ensures { λ r. ⌜ (r .at ≡ d .at) × (r .end ≡ d .end) × (r .records ≡ d .records) × (r .tally ≡ d .tally) ⌝ }
 {
     let tally = d.tally;
     Reading {
@@ -119,7 +118,7 @@ fn turn(
     d: Reading,
 ) -> Reading
     requires { ⌜ Held d (now input) (record { outline = now outline; store = now store; runs = now runs }) ⌝ }
-    ensures { λ r. ⌜ Turned d r (now (input .exit)) (record { outline = now (outline .exit); store = now (store .exit); runs = now (runs .exit) }) ⌝ }
+    ensures { λ r. ⌜ Turned d r (now (input .entry)) (now (input .exit)) (record { outline = now (outline .entry); store = now (store .entry); runs = now (runs .entry) }) (record { outline = now (outline .exit); store = now (store .exit); runs = now (runs .exit) }) ⌝ }
 {
     let at = d.at;
     let end = d.end;
@@ -162,7 +161,8 @@ fn read_all(
     store: &mut [i32],
     runs: &mut [u32],
 ) -> Reading
-    requires { ⌜ (length (now input) ≡ piece) × (formed (record { outline = now outline; store = now store; runs = now runs }) ≡ true) ⌝ }
+    requires { ⌜ (length (now input) ≡ piece) × Fresh (record { outline = now outline; store = now store; runs = now runs }) ⌝ }
+    ensures { λ r. ⌜ Went (record { outline = now (outline .entry); store = now (store .entry); runs = now (runs .entry) }) r (now (input .exit)) (record { outline = now (outline .exit); store = now (store .exit); runs = now (runs .exit) }) ⌝ }
 {
     let mut d = Reading {
         tally: Tally::new(),

@@ -23,7 +23,7 @@ slice-aggregate-read-all-5 c = search needs
 
 read-all-requires : tie.Need-read-all-requires
 unfolding listTo
-read-all-requires c κs = (refl, fresh-lists _ _ refl refl .0)
+read-all-requires c κs = (refl, fresh-lists _ _ refl refl)
 
 slice-aggregate-say-broken : tie.Need-slice-aggregate-say-broken
 slice-aggregate-say-broken c = search needs

@@ -1,7 +1,7 @@
 -- `group::read_all` is safe and ends: the turns are counted down, and the records with them. Assumes nothing.
 use Prim.Native.Nat.{_+_, _*_, _≤_}
 use native.Mathlib.Omega.{arith}
-use mathlib.Core.Path.{_≡_, refl}
+use mathlib.Core.Path.{_≡_, refl, sym}
 use mathlib.Core.Bool.{true}
 use lib.Dec.{ltb}
 use lib.ListN.{length}
@@ -9,13 +9,15 @@ use borrow.Author.Needs.{needs}
 use borrow.Author.Tests.{ltb-true}
 use Rattle.districts.proofs.Tests.{both-right}
 use Rattle.register.specs.Calls.{formed}
-use Rattle.group.specs.Held.{piece, Kept}
+use Rattle.group.specs.Held.{piece, Kept, Went}
+use Rattle.group.proofs.Keeping.{went-none, went-more}
 use Rattle.group.proofs.read_all.Statement.{statement}
 use Rattle.group.proofs.read_all.Tie as tie
 
 abbrev Inv-loop : tie.InvT-loop
 Inv-loop input₀ output₀ coordinates₀ outline₀ store₀ runs₀ d₀ turns₀ input output coordinates outline store runs d turns =
-    Kept d input × (formed (record { outline = outline; store = store; runs = runs }) ≡ true) × (d .records + turns * piece ≤ 4_611_686_018_427_387_904)
+    Went (record { outline = outline₀; store = store₀; runs = runs₀ }) d input (record { outline = outline; store = store; runs = runs })
+    × Kept d input × (formed (record { outline = outline; store = store; runs = runs }) ≡ true) × (d .records + turns * piece ≤ 4_611_686_018_427_387_904)
     × (length input ≡ length input₀) × (length output ≡ length output₀) × (length outline ≡ length outline₀) × (length store ≡ length store₀) × (length runs ≡ length runs₀)
 
 abbrev μ-loop : tie.MeasureT-loop
@@ -27,14 +29,14 @@ new-requires c κs = search needs
 loop-holds : tie.Need-loop-holds Inv-loop μ-loop
 loop-holds c =
     let start = c .before .before .before .before in
-    (record { taken = omega arith; there = omega arith }, start .pre .1, omega arith, refl, refl, refl, refl, refl)
+    (went-none _ _ _ (sym (c .new .ensures)) refl refl, record { taken = omega arith; there = omega arith }, start .pre .1 .0, omega arith, refl, refl, refl, refl, refl)
 
 turn-requires : tie.Need-turn-requires Inv-loop μ-loop
 turn-requires c κs =
     let loop = c .before .before .before .before .before .before .before .before in
     let held = loop .loop .inv in
     let start = loop .before .before .before .before .before in
-    record { kept = held .0; long = omega (arith, held .3, start .pre .0); form = held .1; countable = omega (arith, held .2) }
+    record { kept = held .1; long = omega (arith, held .4, start .pre .0); form = held .2; countable = omega (arith, held .3) }
 
 some-left : (c : tie.Then1 Inv-loop μ-loop) → 1 ≤ c .before .before .loop .turns
 some-left c = ltb-true 0 _ (both-right (c .before .before .loop .d .going) (ltb 0 (c .before .before .loop .turns)) (c .if1 .taken))
@@ -51,25 +53,25 @@ loop-again c =
     let held = called .before .before .before .before .before .before .before .before .before .loop .inv in
     let turned = called .turn .ensures in
     let some = some-left (called .before .before .before .before .before .before .before) in
-    (turned .kept, turned .form, omega (arith, held .2, turned .records, some), search (needs, held .3), search (needs, held .4), search (needs, held .5), search (needs, held .6), search (needs, held .7))
+    (went-more _ _ _ _ _ _ _ (held .0) (turned .turns), turned .kept, turned .form, omega (arith, held .3, turned .records, some), search (needs, held .4), search (needs, held .5), search (needs, held .6), search (needs, held .7), search (needs, held .8))
 
 same-length : tie.Need-same-length Inv-loop μ-loop
-same-length c = c .before .before .loop .inv .3
+same-length c = c .before .before .loop .inv .4
 
 same-length-2 : tie.Need-same-length-2 Inv-loop μ-loop
-same-length-2 c = c .before .before .loop .inv .4
+same-length-2 c = c .before .before .loop .inv .5
 
 same-length-3 : tie.Need-same-length-3 Inv-loop μ-loop
-same-length-3 c = c .before .before .loop .inv .5
+same-length-3 c = c .before .before .loop .inv .6
 
 same-length-4 : tie.Need-same-length-4 Inv-loop μ-loop
-same-length-4 c = c .before .before .loop .inv .6
+same-length-4 c = c .before .before .loop .inv .7
 
 same-length-5 : tie.Need-same-length-5 Inv-loop μ-loop
-same-length-5 c = c .before .before .loop .inv .7
+same-length-5 c = c .before .before .loop .inv .8
 
 returns : tie.Need-returns Inv-loop μ-loop
-returns c = search needs
+returns c = c .before .before .loop .inv .0
 
 pub read-all-spec : {M : Type 1} → statement M
 read-all-spec =

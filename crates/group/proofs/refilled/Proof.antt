@@ -4,7 +4,7 @@ use Prim.Native.Nat.{_-_}
 use mathlib.Core.Path.{refl, ap, _∙_}
 use lib.ListN.{take}
 use borrow.Author.Needs.{needs}
-use Rattle.group.proofs.Keeping.{moved-front}
+use Rattle.group.proofs.Keeping.{moved-front, read-more}
 use Rattle.group.proofs.refilled.Statement.{statement}
 use Rattle.group.proofs.refilled.Tie as tie
 
@@ -27,10 +27,12 @@ returns c =
     let start = shifts .before .before .before .before .before in
     let d = start .args .d in
     let kept = start .pre in
+    let left = d .end - d .at in
+    let front = reads .read-behind .ensures .2 ∙ ap (take left) (shifts .shift .ensures) ∙ moved-front left (d .at) (start .args .input .now) (omega (arith, kept .taken, kept .there)) in
     record {
       kept = record { taken = omega arith; there = search (needs, reads .read-behind .ensures .1) };
-      first = refl;
-      front = reads .read-behind .ensures .2 ∙ ap (take (d .end - d .at)) (shifts .shift .ensures) ∙ moved-front (d .end - d .at) (d .at) (start .args .input .now) (omega (arith, kept .taken, kept .there));
+      bytes = read-more left (reads .read-behind .result) _ _ (reads .read-behind .ensures .0) front;
+      tally = refl;
       records = refl;
     }
 

@@ -1,7 +1,8 @@
 -- `group::turn` meets its contract: printing takes no more than the buffer holds. Assumes nothing.
 use native.Mathlib.Omega.{arith}
+use mathlib.Core.Path.{refl}
 use borrow.Author.Needs.{needs}
-use Rattle.group.proofs.Keeping.{Within, printed-within}
+use Rattle.group.proofs.Keeping.{Within, printed-within, turned-refilled, turned-still}
 use Rattle.group.proofs.turn.Statement.{statement}
 use Rattle.group.proofs.turn.Tie as tie
 
@@ -61,9 +62,7 @@ same-length-5 c = search needs
 returns : tie.Need-returns
 returns c =
     let called = c .before .before .before .before .before .before .before .before .before .before .before .before .before in
-    let held = start called .pre in
-    let taken = within called in
-    record { kept = record { taken = omega (arith, taken .at, c .ended .ensures .0, c .ended .ensures .1); there = omega (arith, held .kept .there, c .ended .ensures .1) }; form = called .print .ensures .0 .form; records = omega (arith, taken .records, c .ended .ensures .2) }
+    turned-still _ _ _ _ _ _ _ _ (called .print .result) (start called .pre) (called .print .ensures .0) (called .print .ensures .1) (c .ended .result) (c .ended .ensures .0) (c .ended .ensures .1) (c .ended .ensures .2) (c .ended .ensures .3)
 
 enum-told : tie.Need-enum-told
 enum-told c = search needs
@@ -100,9 +99,7 @@ same-length-10 c = search needs
 returns-2 : tie.Need-returns-2
 returns-2 c =
     let called = c .before .before .before .before .before .before .before .before .before .before .before .before .before .before in
-    let held = start called .pre in
-    let taken = within called in
-    record { kept = record { taken = taken .at; there = held .kept .there }; form = called .print .ensures .0 .form; records = taken .records }
+    turned-still _ _ _ _ _ _ _ _ (called .print .result) (start called .pre) (called .print .ensures .0) (called .print .ensures .1) _ refl refl refl refl
 
 same-length-11 : tie.Need-same-length-11
 same-length-11 c = search needs
@@ -122,8 +119,7 @@ same-length-15 c = search needs
 returns-3 : tie.Need-returns-3
 returns-3 c =
     let called = c .before .before .before .before .before .before .before .before .before .before .before .before .before .before .before .before .before .before in
-    let taken = within called in
-    record { kept = c .before .before .refilled .ensures .kept; form = called .print .ensures .0 .form; records = omega (arith, taken .records, c .before .before .refilled .ensures .records) }
+    turned-refilled _ _ _ _ _ _ _ _ (called .print .result) (start called .pre) (called .print .ensures .0) (called .print .ensures .1) _ _ _ refl refl refl refl (c .before .before .refilled .ensures)
 
 same-length-16 : tie.Need-same-length-16
 same-length-16 c = search needs
@@ -143,9 +139,7 @@ same-length-20 c = search needs
 returns-4 : tie.Need-returns-4
 returns-4 c =
     let called = c .before .before .before .before .before .before .before .before .before .before .before .before .before .before .before in
-    let held = start called .pre in
-    let taken = within called in
-    record { kept = record { taken = omega (arith, taken .at, c .ended2 .ensures .0, c .ended2 .ensures .1); there = omega (arith, held .kept .there, c .ended2 .ensures .1) }; form = called .print .ensures .0 .form; records = omega (arith, taken .records, c .ended2 .ensures .2) }
+    turned-still _ _ _ _ _ _ _ _ (called .print .result) (start called .pre) (called .print .ensures .0) (called .print .ensures .1) (c .ended2 .result) (c .ended2 .ensures .0) (c .ended2 .ensures .1) (c .ended2 .ensures .2) (c .ended2 .ensures .3)
 
 pub turn-spec : {M : Type 1} → statement M
 turn-spec =
