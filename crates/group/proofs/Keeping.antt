@@ -2,19 +2,22 @@
 use Prim.Native.Nat.{ℕ, _+_, _-_, _≤_}
 use native.Mathlib.Omega.{arith}
 use mathlib.Core.Path.{_≡_, refl, sym, ap, subst, _∙_}
-use mathlib.Core.Bool.{false}
+use mathlib.Core.Bool.{Bool, true, false, _&&_, true≢false}
 use mathlib.Core.List.{List, [], _∷_, _++_, append-nil}
+use lib.Dec.{eqb, ltb}
 use lib.IntN.{ℤ}
 use lib.ListN.{length, take, drop, length-drop}
 use lib.Seq.{take-at, take-add, drop-at, drop-drop, length-take-le, paste}
+use borrow.Author.Tests.{ltb-false, eq-eqb}
 use Rattle.register.specs.Calls.{Lists}
 use Rattle.stream.specs.declared.Page.{Page}
+use Rattle.stream.specs.declared.Stop.the-variants.{More}
 use Rattle.stream.specs.Desks.{Desk, deskOf}
 use Rattle.stream.specs.Printing.{Printed}
 use Rattle.stream.specs.Pieces.{Standing, Piece, Part, Reads, lastOf}
 use Rattle.stream.proofs.Pages.{printed-few}
 use Rattle.group.specs.declared.Reading.{Reading}
-use Rattle.group.specs.Held.{piece, waiting, Kept, Refilled, Held, Stands, Turned, starting, Went}
+use Rattle.group.specs.Held.{piece, waiting, Kept, Refilled, Held, Closed, at-end, Stands, Turned, starting, Went}
 
 -- what stands in front stays
 pub front-stays : (n : ℕ) (xs ys : List ℕ) → n ≤ length xs → take n (take n xs ++ ys) ≡ take n xs
@@ -25,11 +28,20 @@ pub moved-front : (n at : ℕ) (xs : List ℕ) → at + n ≤ length xs → take
 moved-front n at xs h = front-stays n (drop at xs) (drop (0 + n) xs) (omega (arith, h, length-drop at xs))
 
 -- what waits in front, and the bytes that were read behind it
-pub read-more : (n end : ℕ) (input front : List ℕ) → n ≤ end → take n input ≡ front → (more : List ℕ) × (take (end - 0) (drop 0 input) ≡ front ++ more)
+abbrev pub behind : ℕ → ℕ → List ℕ → List ℕ
+behind n end input = take (end - n) (drop n input)
+
+pub read-more : (n end : ℕ) (input front : List ℕ) → n ≤ end → take n input ≡ front → take (end - 0) (drop 0 input) ≡ front ++ behind n end input
 read-more n end input front h e =
     let all : end - 0 ≡ n + (end - n) = omega (arith, h) in
-    let more = take (end - n) (drop n input) in
-    (more, ap (λ m. take m input) all ∙ take-add n (end - n) input ∙ ap (λ f. f ++ more) e)
+    ap (λ m. take m input) all ∙ take-add n (end - n) input ∙ ap (λ f. f ++ behind n end input) e
+
+-- nothing has come: the reading is broken where something is left
+pub read-none : (n end m : ℕ) (input : List ℕ) → n ≤ end → m ≡ n → ltb n end ≡ false → (behind n end input ≡ []) × ((eqb n end && ltb 0 n) ≡ ltb 0 m)
+read-none n end m input h long none =
+    let same : n ≡ end = omega (arith, h, ltb-false n end none) in
+    let nothing : end - n ≡ 0 = omega (arith, same) in
+    (ap (λ k. take k (drop n input)) nothing, ap (λ b. b && ltb 0 n) (eq-eqb n end same) ∙ ap (ltb 0) (sym long))
 
 -- ---- printing takes no more than there is
 
@@ -38,7 +50,7 @@ pub record Within (d : Reading) (p : Page) : Type 0 where
   pub small : d .end ≤ piece
   pub records : p .records ≤ d .records + piece
 
-part-long : (d : Reading) (input : List ℕ) → Kept d input → length (waiting d input) ≡ d .end - d .at
+pub part-long : (d : Reading) (input : List ℕ) → Kept d input → length (waiting d input) ≡ d .end - d .at
 part-long d input kept = length-take-le (d .end - d .at) (drop (d .at) input) (omega (arith, kept .taken, kept .there, length-drop (d .at) input))
 
 pub printed-within : (d : Reading) (input : List ℕ) (l : Lists) (k : Desk) (list : List ℤ) (to : List ℕ) (p : Page) (l′ : Lists) (list′ : List ℤ) (to′ : List ℕ) → Held d input l → Printed (waiting d input) k (d .records) list to p l′ list′ to′ → Within d p
@@ -87,39 +99,42 @@ module _ (d : Reading) (input : List ℕ) (l m : Lists) (list list′ : List ℤ
   within : Within d p
   within = printed-within d input l (deskOf l (d .tally)) list to p m list′ to′ held printed
 
-  -- next is the program behind what was printed, and e the same with more bytes
-  pub turned-refilled : (next e : Reading) (after : List ℕ) → next .at ≡ d .at + p .at → next .end ≡ d .end → next .records ≡ p .records → next .tally ≡ p .tally → Refilled next e input after → Turned d e input after l m
-  turned-refilled next e after at end records tally r = record {
-    kept = r .kept;
+  -- the program behind what was printed
+  abbrev next : Bool → Bool → Bool → Reading
+  next going broken failed = record { tally = p .tally; records = p .records; at = d .at + p .at; end = d .end; going = going; broken = broken; failed = failed }
+
+  -- e is that program with more bytes
+  turned : (e : Reading) (after more : List ℕ) → Kept e after → e .tally ≡ p .tally → e .records ≡ p .records → waiting e after ≡ drop (p .at) (waiting d input) ++ more
+      → (e .going ≡ false → e .failed ≡ false → Closed (p .stop) (drop (p .at) (waiting d input)) more (e .broken)) → Turned d e input after l m
+  turned e after more kept tally records bytes closed = record {
+    kept = kept;
     form = printed .form;
-    records = omega (arith, within .records, records, r .records);
-    turns = λ s stood. (
-      left s,
-      one-piece s stood,
-      record {
-        lists = refl;
-        tally = sym (r .tally ∙ tally);
-        records = sym (r .records ∙ records);
-        since = r .bytes .0;
-        bytes = r .bytes .1 ∙ ap (λ w. w ++ r .bytes .0) ((λ i. take (end i - at i) (drop (at i) input)) ∙ waits-on d input (p .at) (held .kept) (within .at));
-      },
-    );
+    records = omega (arith, within .records, records);
+    turns = λ s stood. (left s, one-piece s stood, record { lists = refl; tally = sym tally; records = sym records; since = more; bytes = bytes; closed = closed });
   }
 
-  -- the same with none
-  pub turned-still : (next : Reading) → next .at ≡ d .at + p .at → next .end ≡ d .end → next .records ≡ p .records → next .tally ≡ p .tally → Turned d next input input l m
-  turned-still next at end records tally = turned-refilled next next input at end records tally (record {
-    kept = record { taken = omega (arith, at, end, within .at); there = omega (arith, end, held .kept .there) };
-    bytes = ([], sym (append-nil (waiting next input)));
-    tally = refl;
-    records = refl;
-  })
+  waits : take (d .end - (d .at + p .at)) (drop (d .at + p .at) input) ≡ drop (p .at) (waiting d input)
+  waits = waits-on d input (p .at) (held .kept) (within .at)
+
+  pub turned-still : (going broken failed : Bool) (e : Reading) → e ≡ next going broken failed → (going ≡ false → failed ≡ false → Closed (p .stop) (drop (p .at) (waiting d input)) [] broken) → Turned d e input input l m
+  turned-still going broken failed e is closed =
+      subst (λ r. Turned d r input input l m) (sym is)
+      (turned (next going broken failed) input [] (record { taken = within .at; there = held .kept .there }) refl refl (waits ∙ sym (append-nil (drop (p .at) (waiting d input)))) closed)
+
+  pub turned-refilled : (going broken failed : Bool) (e : Reading) (after : List ℕ) → p .stop ≡ More → Refilled (next going broken failed) e input after → Turned d e input after l m
+  turned-refilled going broken failed e after stop r =
+      turned e after (r .more) (r .kept) (r .tally) (r .records) (r .bytes ∙ ap (λ w. w ++ r .more) waits)
+      (λ off fine. let none = r .ends off in at-end stop (none .0) (none .1 ∙ ap (λ w. ltb 0 (length w)) waits))
 
 -- ---- one piece after the other
 
-pub went-none : (l : Lists) (d : Reading) (input : List ℕ) → starting l .tally ≡ d .tally → d .records ≡ 0 → waiting d input ≡ [] → Went l d input l
+pub went-none : (l : Lists) (d : Reading) (input : List ℕ) → starting l .tally ≡ d .tally → d .records ≡ 0 → waiting d input ≡ [] → d .going ≡ true → Went l d input l
 unfolding Reads lastOf
-went-none l d input t n none = record { parts = []; reads = tt; stands = record { lists = refl; tally = t; records = sym n; since = []; bytes = none } }
+went-none l d input t n none on = record {
+  parts = [];
+  reads = tt;
+  stands = record { lists = refl; tally = t; records = sym n; since = []; bytes = none; closed = λ off fine. absurd (true≢false (sym on ∙ off)) };
+}
 
 reads-more : (s : Standing) (ps : List Part) (bytes : List ℕ) (t : Standing) → Reads s ps → Piece (lastOf s ps) bytes t → Reads s (ps ++ record { bytes = bytes; left = t } ∷ [])
 unfolding Reads lastOf

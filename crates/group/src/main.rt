@@ -1,5 +1,5 @@
-// The grouping program: reads a record stream from standard input and prints a line for each record and the end line. Reading, printing and
-// the end are proved safe; what is printed for the bytes that were read is `stream::print`'s promise.
+// The grouping program: reads a record stream from standard input and prints a line for each record and the end line. It is proved to end and to
+// be safe, and each turn to be one piece of the stream, so that what it prints is the stream's output (crates/group/proofs/Whole.antt).
 use libc::STDERR_FILENO;
 use libc::STDIN_FILENO;
 use libc::STDOUT_FILENO;
@@ -8,6 +8,7 @@ use tally::Tally;
 use wording::Kind;
 use wording::Said;
 ghost use mathlib.Core.Path.{_≡_};
+ghost use mathlib.Core.Bool.{false, not};
 ghost use Prim.Native.Nat.{_+_, _≤_};
 ghost use lib.ListN.{length, take, drop};
 ghost use lib.Seq.{paste};
@@ -23,7 +24,7 @@ const BROKEN: usize = 13;
 // A proved loop has to end, and nothing says that the input does: the turns are counted down from a number that no run uses up.
 const TURNS: usize = 70_368_744_177_664;
 
-// What was read so far. The bytes from `at` to `end` of the buffer are not taken yet.
+// What was read so far. The bytes from `at` to `end` of the buffer are not taken yet; `failed` once standard output can't be written.
 pub struct Reading {
     pub tally: Tally,
     pub records: usize,
@@ -31,6 +32,7 @@ pub struct Reading {
     pub end: usize,
     pub going: bool,
     pub broken: bool,
+    pub failed: bool,
 }
 
 // Moves the n bytes from a place on to the front.
@@ -89,12 +91,13 @@ fn refilled(input: &mut [u8], d: Reading) -> Reading
         end,
         going: left < end,
         broken: (left == end) & (0 < left),
+        failed: false,
     }
 }
 
-// The reading ended, by a broken record or because nothing more can be written.
+// The reading ended, by a broken record or else because nothing more can be written.
 fn ended(d: Reading, broken: bool) -> Reading
-    ensures { λ r. ⌜ (r .at ≡ d .at) × (r .end ≡ d .end) × (r .records ≡ d .records) × (r .tally ≡ d .tally) ⌝ }
+    ensures { λ r. ⌜ r ≡ record { tally = d .tally; records = d .records; at = d .at; end = d .end; going = false; broken = broken; failed = not broken } ⌝ }
 {
     let tally = d.tally;
     Reading {
@@ -104,6 +107,7 @@ fn ended(d: Reading, broken: bool) -> Reading
         end: d.end,
         going: false,
         broken,
+        failed: !broken,
     }
 }
 
@@ -142,6 +146,7 @@ fn turn(
         end,
         going: true,
         broken: false,
+        failed: false,
     };
     if !written(&output[0..filled]) {
         return ended(next, false);
@@ -171,6 +176,7 @@ fn read_all(
         end: 0,
         going: true,
         broken: false,
+        failed: false,
     };
     let mut turns = TURNS;
     while d.going & (0 < turns) {

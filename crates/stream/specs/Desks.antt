@@ -64,6 +64,6 @@ brokenLine false n = []
 abbrev pub lastLine : ℕ → Tally → List ℕ
 lastLine records t = endLine records (onesOf t) (t .border) (t .none) (t .several)
 
--- all that is printed for a stream. No promise can speak of what a program writes: that `group` writes this is tested
+-- all that is printed for a stream
 unfoldable pub output : List ℕ → List ℕ
 output bytes = linesFrom 0 opening (callsOf bytes) ++ brokenLine (brokenOff bytes) (length (callsOf bytes)) ++ lastLine (length (callsOf bytes)) (through opening (callsOf bytes) .tally)

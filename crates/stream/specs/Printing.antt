@@ -33,7 +33,8 @@ unfoldable pub noted : List Call → List ℤ → List ℤ
 noted [] list = list
 noted (c ∷ cs) list = noted cs (written (pairsOf c) list)
 
--- some first calls of the bytes are done, from desk k on, each where there was room for its line; the lines stand in the lent list, from number n on
+-- some first calls of the bytes are done, from desk k on, each where there was room for its line; the lines stand in the lent list, from number
+-- n on, and the coordinates of the calls in the other
 pub record Printed (bytes : List ℕ) (k : Desk) (n : ℕ) (list : List ℤ) (to : List ℕ) (p : Page) (l : Lists) (list′ : List ℤ) (to′ : List ℕ) : Type 0 where
   pub done : List Call
   pub starts : Starts bytes done (drop (p .at) bytes)

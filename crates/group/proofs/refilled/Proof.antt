@@ -4,7 +4,7 @@ use Prim.Native.Nat.{_-_}
 use mathlib.Core.Path.{refl, ap, _∙_}
 use lib.ListN.{take}
 use borrow.Author.Needs.{needs}
-use Rattle.group.proofs.Keeping.{moved-front, read-more}
+use Rattle.group.proofs.Keeping.{behind, moved-front, read-more, read-none, part-long}
 use Rattle.group.proofs.refilled.Statement.{statement}
 use Rattle.group.proofs.refilled.Tie as tie
 
@@ -31,7 +31,9 @@ returns c =
     let front = reads .read-behind .ensures .2 ∙ ap (take left) (shifts .shift .ensures) ∙ moved-front left (d .at) (start .args .input .now) (omega (arith, kept .taken, kept .there)) in
     record {
       kept = record { taken = omega arith; there = search (needs, reads .read-behind .ensures .1) };
+      more = behind left (reads .read-behind .result) _;
       bytes = read-more left (reads .read-behind .result) _ _ (reads .read-behind .ensures .0) front;
+      ends = read-none left (reads .read-behind .result) _ _ (reads .read-behind .ensures .0) (part-long d (start .args .input .now) kept);
       tally = refl;
       records = refl;
     }

@@ -1,7 +1,9 @@
 -- `group::turn` meets its contract: printing takes no more than the buffer holds. Assumes nothing.
 use native.Mathlib.Omega.{arith}
 use mathlib.Core.Path.{refl}
+use mathlib.Core.Bool.{true, false, true≢false}
 use borrow.Author.Needs.{needs}
+use Rattle.group.specs.Held.{at-broken}
 use Rattle.group.proofs.Keeping.{Within, printed-within, turned-refilled, turned-still}
 use Rattle.group.proofs.turn.Statement.{statement}
 use Rattle.group.proofs.turn.Tie as tie
@@ -62,7 +64,7 @@ same-length-5 c = search needs
 returns : tie.Need-returns
 returns c =
     let called = c .before .before .before .before .before .before .before .before .before .before .before .before .before in
-    turned-still _ _ _ _ _ _ _ _ (called .print .result) (start called .pre) (called .print .ensures .0) (called .print .ensures .1) (c .ended .result) (c .ended .ensures .0) (c .ended .ensures .1) (c .ended .ensures .2) (c .ended .ensures .3)
+    turned-still _ _ _ _ _ _ _ _ (called .print .result) (start called .pre) (called .print .ensures .0) (called .print .ensures .1) false false true (c .ended .result) (c .ended .ensures) (λ off fine. absurd (true≢false fine))
 
 enum-told : tie.Need-enum-told
 enum-told c = search needs
@@ -99,7 +101,7 @@ same-length-10 c = search needs
 returns-2 : tie.Need-returns-2
 returns-2 c =
     let called = c .before .before .before .before .before .before .before .before .before .before .before .before .before .before in
-    turned-still _ _ _ _ _ _ _ _ (called .print .result) (start called .pre) (called .print .ensures .0) (called .print .ensures .1) _ refl refl refl refl
+    turned-still _ _ _ _ _ _ _ _ (called .print .result) (start called .pre) (called .print .ensures .0) (called .print .ensures .1) true false false _ refl (λ off fine. absurd (true≢false off))
 
 same-length-11 : tie.Need-same-length-11
 same-length-11 c = search needs
@@ -119,7 +121,7 @@ same-length-15 c = search needs
 returns-3 : tie.Need-returns-3
 returns-3 c =
     let called = c .before .before .before .before .before .before .before .before .before .before .before .before .before .before .before .before .before .before in
-    turned-refilled _ _ _ _ _ _ _ _ (called .print .result) (start called .pre) (called .print .ensures .0) (called .print .ensures .1) _ _ _ refl refl refl refl (c .before .before .refilled .ensures)
+    turned-refilled _ _ _ _ _ _ _ _ (called .print .result) (start called .pre) (called .print .ensures .0) (called .print .ensures .1) true false false _ _ (c .before .before .before .before .enum-told2 .given .1) (c .before .before .refilled .ensures)
 
 same-length-16 : tie.Need-same-length-16
 same-length-16 c = search needs
@@ -139,7 +141,7 @@ same-length-20 c = search needs
 returns-4 : tie.Need-returns-4
 returns-4 c =
     let called = c .before .before .before .before .before .before .before .before .before .before .before .before .before .before .before in
-    turned-still _ _ _ _ _ _ _ _ (called .print .result) (start called .pre) (called .print .ensures .0) (called .print .ensures .1) (c .ended2 .result) (c .ended2 .ensures .0) (c .ended2 .ensures .1) (c .ended2 .ensures .2) (c .ended2 .ensures .3)
+    turned-still _ _ _ _ _ _ _ _ (called .print .result) (start called .pre) (called .print .ensures .0) (called .print .ensures .1) false true false (c .ended2 .result) (c .ended2 .ensures) (λ off fine. at-broken (c .before .enum-told3 .given .1) refl)
 
 pub turn-spec : {M : Type 1} → statement M
 turn-spec =
