@@ -1,6 +1,10 @@
+pub mod Replying
+pub mod Taking
+pub mod Unique
 pub mod Unrolling
+pub mod Starting
 pub mod Steps
 pub mod Turning
 pub mod Pages
-pub mod Cutting
-pub mod Bytes
+pub mod OnePage
+pub mod Pieces

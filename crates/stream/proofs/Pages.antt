@@ -4,22 +4,22 @@ use native.Mathlib.Omega.{arith}
 use mathlib.Core.Path.{_≡_, refl, sym, ap, subst, _∙_}
 use mathlib.Core.Bool.{Bool, true, false, true≢false}
 use mathlib.Core.List.{List, [], _∷_, _++_, append-assoc, append-nil}
+use lib.IntN.{ℤ}
 use lib.ListN.{length, drop, length-drop, length-append}
 use lib.Seq.{drop-drop}
-use Rattle.districts.specs.Lent.{Lists, formed, means}
+use Rattle.districts.specs.Lent.{Lists, formed, written}
 use Rattle.tally.specs.declared.Tally.{Tally}
 use Rattle.history.specs.Histories.{Call}
+use Rattle.records.specs.Decoding.{pairsOf}
 use Rattle.records.proofs.Sizes.{Size, whole-size}
-use Rattle.wording.specs.Lines.{line}
+use Rattle.wording.specs.Lines.{room}
 use Rattle.wording.proofs.Laying.{joined, laid-as}
-use Rattle.applying.specs.Replies.{replied, kindOf}
 use Rattle.stream.specs.declared.Stop.the-variants.{More}
 use Rattle.stream.specs.declared.Page.{Page}
-use Rattle.stream.specs.Streams.{callsOf, leftOf}
-use Rattle.stream.specs.Desks.{Desk, next, through, linesFrom}
-use Rattle.stream.specs.Progress.{deskOf}
-use Rattle.stream.specs.Printing.{Stopped, Printed, numbers, Ready, Wrote, Rests, TurnedBy}
-use Rattle.stream.proofs.Unrolling.{calls-whole, left-whole}
+use Rattle.stream.specs.Streams.{Starts}
+use Rattle.stream.specs.Desks.{Desk, deskOf, next, through, lineOf, linesFrom}
+use Rattle.stream.specs.Printing.{Stopped, Roomy, noted, Printed, numbers, Ready, Wrote, Rests, TurnedBy}
+use Rattle.stream.proofs.Starting.{starts-more, starts-one, starts-few}
 
 -- ---- calls and lines, one list behind another
 
@@ -33,113 +33,126 @@ unfolding through linesFrom
 lines-more n k [] ds = let e : n ≡ n + 0 = omega arith in ap (λ m. linesFrom m k ds) e
 lines-more n k (c ∷ cs) ds =
     let e : n + 1 + length cs ≡ n + suc (length cs) = omega arith in
-    let first = line n (kindOf c) (replied true (k .register) (k .tally) c) in
+    let first = lineOf n k c in
     ap (λ l. first ++ l) (lines-more (n + 1) (next k c) cs ds ∙ ap (λ m. linesFrom (n + 1) (next k c) cs ++ linesFrom m (through (next k c) cs) ds) e)
     ∙ sym (append-assoc first (linesFrom (n + 1) (next k c) cs) (linesFrom (n + suc (length cs)) (through (next k c) cs) ds))
 
 -- the line of one call more
-one-line-more : (n : ℕ) (k : Desk) (cs : List Call) (c : Call) → linesFrom n k (cs ++ c ∷ []) ≡ linesFrom n k cs ++ line (n + length cs) (kindOf c) (replied true (through k cs .register) (through k cs .tally) c)
+one-line-more : (n : ℕ) (k : Desk) (cs : List Call) (c : Call) → linesFrom n k (cs ++ c ∷ []) ≡ linesFrom n k cs ++ lineOf (n + length cs) (through k cs) c
 unfolding linesFrom
 one-line-more n k cs c = lines-more n k cs (c ∷ []) ∙ ap (λ l. linesFrom n k cs ++ l) (append-nil _)
 
+-- ---- room for one line more, and the coordinates of one call more
+
+roomy-more : (places n : ℕ) (k : Desk) (cs : List Call) (c : Call) → Roomy places n k cs → room ≤ places - length (linesFrom n k cs) → Roomy places n k (cs ++ c ∷ [])
+unfolding Roomy linesFrom
+roomy-more places n k [] c h left = (omega (arith, left), tt)
+roomy-more places n k (d ∷ cs) c h left =
+    (h .0, roomy-more (places - length (lineOf n k d)) (n + 1) (next k d) cs c (h .1) (omega (arith, left, length-append (lineOf n k d) (linesFrom (n + 1) (next k d) cs))))
+
+noted-more : (cs : List Call) (c : Call) (list : List ℤ) → noted (cs ++ c ∷ []) list ≡ written (pairsOf c) (noted cs list)
+unfolding noted
+noted-more [] c list = refl
+noted-more (d ∷ cs) c list = noted-more cs c (written (pairsOf d) list)
+
 -- ---- before the first turn
 
-pub printed-none : (bytes : List ℕ) (t : Tally) (n : ℕ) (to : List ℕ) (l : Lists) → formed l ≡ true → Printed bytes (deskOf l t) n to (record { at = 0; filled = 0; records = n; tally = t; going = true; stop = More }) l to
-unfolding through linesFrom
-printed-none bytes t n to l good = record {
+pub printed-none : (bytes : List ℕ) (t : Tally) (n : ℕ) (list : List ℤ) (to : List ℕ) (l : Lists) → formed l ≡ true → Printed bytes (deskOf l t) n list to (record { at = 0; filled = 0; records = n; tally = t; going = true; stop = More }) l list to
+unfolding through linesFrom Starts Roomy noted
+printed-none bytes t n list to l good = record {
   done = [];
-  calls = refl;
-  left = refl;
+  starts = refl;
   there = omega arith;
-  few = omega arith;
+  roomy = tt;
   form = good;
   desk = refl;
   records = omega arith;
+  coordinates = refl;
   text = record { behind = refl; left = refl };
   fits = omega arith;
   stop = λ e. absurd (true≢false e);
 }
 
-pub ready : (bytes : List ℕ) (k : Desk) (n : ℕ) (to : List ℕ) (p : Page) (l : Lists) (now : List ℕ) → Printed bytes k n to p l now → length now ≡ length to → n + length bytes < numbers → Ready bytes p l now
-ready bytes k n to p l now so-far same few = record {
-  there = so-far .there;
-  fits = omega (arith, so-far .fits, same);
-  form = so-far .form;
-  long = omega (arith, few);
-  countable = omega (arith, few, so-far .records, so-far .few, so-far .there);
-}
-
 -- ---- a turn
 
-module _ (bytes : List ℕ) (k : Desk) (n : ℕ) (to : List ℕ) (p : Page) (l : Lists) (now : List ℕ) (so-far : Printed bytes k n to p l now) (q : Page) (l′ : Lists) (now′ : List ℕ) where
+module _ (bytes : List ℕ) (k : Desk) (n : ℕ) (list : List ℤ) (to : List ℕ) (p : Page) (l : Lists) (list′ : List ℤ) (now : List ℕ) (so-far : Printed bytes k n list to p l list′ now) where
   abbrev rest : List ℕ
   rest = drop (p .at) bytes
 
-  goes : q .going ≡ true → length now ≡ length to → q .filled ≤ length now → Wrote bytes p l now q l′ now′ → Printed bytes k n to q l′ now′
-  unfolding through
-  goes on same fits w = record {
-    done = so-far .done ++ w .call ∷ [];
-    calls = so-far .calls ∙ ap (λ cs. so-far .done ++ cs) (calls-whole rest (w .call) (w .size) (w .is) ∙ ap (λ b. w .call ∷ callsOf b) (sym behind)) ∙ sym (append-assoc (so-far .done) (w .call ∷ []) (callsOf (drop (q .at) bytes)));
-    left = so-far .left ∙ left-whole rest (w .call) (w .size) (w .is) ∙ ap leftOf (sym behind);
-    there = omega (arith, w .at, size .there, length-drop (p .at) bytes, so-far .there);
-    few = omega (arith, w .at, size .least, so-far .few, longer);
-    form = w .form;
-    desk = w .desk ∙ desks ∙ sym (through-more k (so-far .done) (w .call ∷ []));
-    records = omega (arith, w .records, so-far .records, longer);
-    text = laid-as (sym lines) (joined zero-le (so-far .text) (w .text));
-    fits = omega (arith, fits, same);
-    stop = λ e. absurd (true≢false (sym on ∙ e));
+  -- the calls that are done have bytes
+  pub printed-few : length (so-far .done) ≤ p .at
+  printed-few = omega (arith, starts-few bytes rest (so-far .done) (so-far .starts), length-drop (p .at) bytes, so-far .there)
+
+  pub ready : length now ≡ length to → n + length bytes < numbers → Ready bytes p l now
+  ready same few = record {
+    there = so-far .there;
+    fits = omega (arith, so-far .fits, same);
+    form = so-far .form;
+    long = omega (arith, few);
+    countable = omega (arith, few, so-far .records, printed-few, so-far .there);
   }
-    where
-      behind : drop (q .at) bytes ≡ drop (w .size) rest
-      behind = ap (λ m. drop m bytes) (w .at) ∙ sym (drop-drop (w .size) (p .at) bytes)
 
-      size : Size rest (w .size)
-      size = whole-size rest (w .call) (w .size) (w .is)
+  module _ (q : Page) (l′ : Lists) (list″ : List ℤ) (now′ : List ℕ) where
+    goes : q .going ≡ true → length now ≡ length to → Wrote bytes p l list′ now q l′ list″ now′ → Printed bytes k n list to q l′ list″ now′
+    unfolding through
+    goes on same w = record {
+      done = so-far .done ++ w .call ∷ [];
+      starts = starts-more bytes rest (drop (q .at) bytes) (so-far .done) (w .call ∷ []) (so-far .starts) (subst (Starts rest (w .call ∷ [])) (sym behind) (starts-one rest (w .call) (w .size) (w .is)));
+      there = omega (arith, w .at, size .there, length-drop (p .at) bytes, so-far .there);
+      roomy = roomy-more (length to) n k (so-far .done) (w .call) (so-far .roomy) (omega (arith, w .roomy, same, so-far .text .behind));
+      form = w .form;
+      desk = w .desk ∙ ap (λ d. next d (w .call)) (so-far .desk) ∙ sym (through-more k (so-far .done) (w .call ∷ []));
+      records = omega (arith, w .records, so-far .records, length-append (so-far .done) (w .call ∷ []));
+      coordinates = w .coordinates ∙ ap (written (pairsOf (w .call))) (so-far .coordinates) ∙ sym (noted-more (so-far .done) (w .call) list);
+      text = laid-as (sym lines) (joined zero-le (so-far .text) (w .text));
+      fits = omega (arith, w .fits, same);
+      stop = λ e. absurd (true≢false (sym on ∙ e));
+    }
+      where
+        behind : drop (q .at) bytes ≡ drop (w .size) rest
+        behind = ap (λ m. drop m bytes) (w .at) ∙ sym (drop-drop (w .size) (p .at) bytes)
 
-      longer : length (so-far .done ++ w .call ∷ []) ≡ length (so-far .done) + 1
-      longer = length-append (so-far .done) (w .call ∷ [])
+        size : Size rest (w .size)
+        size = whole-size rest (w .call) (w .size) (w .is)
 
-      desks : next (deskOf l (p .tally)) (w .call) ≡ through (through k (so-far .done)) (w .call ∷ [])
-      desks = ap (λ d. next d (w .call)) (so-far .desk)
+        lines : linesFrom n k (so-far .done ++ w .call ∷ []) ≡ linesFrom n k (so-far .done) ++ lineOf (p .records) (deskOf l (p .tally)) (w .call)
+        lines = one-line-more n k (so-far .done) (w .call) ∙ (λ i. linesFrom n k (so-far .done) ++ lineOf (sym (so-far .records) i) (sym (so-far .desk) i) (w .call))
 
-      lines : linesFrom n k (so-far .done ++ w .call ∷ []) ≡ linesFrom n k (so-far .done) ++ line (p .records) (kindOf (w .call)) (replied true (means l) (p .tally) (w .call))
-      lines = one-line-more n k (so-far .done) (w .call) ∙ (λ i. linesFrom n k (so-far .done) ++ line (sym (so-far .records) i) (kindOf (w .call)) (replied true (sym (so-far .desk) i .register) (sym (so-far .desk) i .tally) (w .call)))
+    ends : length now ≡ length to → Rests bytes p l list′ now q l′ list″ now′ → Printed bytes k n list to q l′ list″ now′
+    ends same w =
+        subst (λ page. Printed bytes k n list to page l′ list″ now′) (sym (w .page))
+        (subst (λ m. Printed bytes k n list to page m list″ now′) (w .lists)
+        (subst (λ m. Printed bytes k n list to page l m now′) (w .coordinates)
+        (subst (λ text. Printed bytes k n list to page l list′ text) (w .text) stays)))
+      where
+        page : Page
+        page = record { at = p .at; filled = p .filled; records = p .records; tally = p .tally; going = false; stop = q .stop }
 
-  ends : length now ≡ length to → Rests bytes p l now q l′ now′ → Printed bytes k n to q l′ now′
-  ends same w =
-      subst (λ page. Printed bytes k n to page l′ now′) (sym (w .page))
-      (subst (λ m. Printed bytes k n to page m now′) (w .lists)
-      (subst (λ text. Printed bytes k n to page l text) (w .text) stays))
-    where
-      page : Page
-      page = record { at = p .at; filled = p .filled; records = p .records; tally = p .tally; going = false; stop = q .stop }
+        stays : Printed bytes k n list to page l list′ now
+        stays = record {
+          done = so-far .done;
+          starts = so-far .starts;
+          there = so-far .there;
+          roomy = so-far .roomy;
+          form = so-far .form;
+          desk = so-far .desk;
+          records = so-far .records;
+          coordinates = so-far .coordinates;
+          text = so-far .text;
+          fits = so-far .fits;
+          stop = λ e. subst (λ m. Stopped (q .stop) (m - p .filled) rest) same (w .why);
+        }
 
-      stays : Printed bytes k n to page l now
-      stays = record {
-        done = so-far .done;
-        calls = so-far .calls;
-        left = so-far .left;
-        there = so-far .there;
-        few = so-far .few;
-        form = so-far .form;
-        desk = so-far .desk;
-        records = so-far .records;
-        text = so-far .text;
-        fits = so-far .fits;
-        stop = λ e. subst (λ m. Stopped (q .stop) (m - p .filled) rest) same (w .why);
-      }
+    pub printed-more : length now ≡ length to → TurnedBy bytes p l list′ now q l′ list″ now′ → Printed bytes k n list to q l′ list″ now′
+    printed-more same turned = say (q .going) refl
+      where
+        say : (b : Bool) → q .going ≡ b → Printed bytes k n list to q l′ list″ now′
+        say true e = goes e same (turned .goes e)
+        say false e = ends same (turned .ends e)
 
-  pub printed-more : length now ≡ length to → TurnedBy bytes p l now q l′ now′ → Printed bytes k n to q l′ now′
-  printed-more same turned = say (q .going) refl
-    where
-      say : (b : Bool) → q .going ≡ b → Printed bytes k n to q l′ now′
-      say true e = let w = turned .goes e in goes e same (w .fits) w
-      say false e = ends same (turned .ends e)
+    -- a turn goes on in the bytes, or stays where it was
+    pub onward : TurnedBy bytes p l list′ now q l′ list″ now′ → q .going ≡ true → p .at < q .at
+    onward turned e = let w = turned .goes e in omega (arith, w .at, whole-size rest (w .call) (w .size) (w .is) .least)
 
-  -- a turn goes on in the bytes, or stays where it was
-  pub onward : TurnedBy bytes p l now q l′ now′ → q .going ≡ true → p .at < q .at
-  onward turned e = let w = turned .goes e in omega (arith, w .at, whole-size rest (w .call) (w .size) (w .is) .least)
-
-  pub stayed : TurnedBy bytes p l now q l′ now′ → q .going ≡ false → q .at ≡ p .at
-  stayed turned e = ap (λ (x : Page). x .at) (turned .ends e .page)
+    pub stayed : TurnedBy bytes p l list′ now q l′ list″ now′ → q .going ≡ false → q .at ≡ p .at
+    stayed turned e = ap (λ (x : Page). x .at) (turned .ends e .page)

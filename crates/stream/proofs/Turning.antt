@@ -3,22 +3,22 @@ use Prim.Native.Nat.{ℕ, _+_, _-_, _≤_, _<_}
 use native.Mathlib.Omega.{arith}
 use mathlib.Core.Path.{_≡_, refl, sym, ap, subst, _∙_}
 use mathlib.Core.Bool.{Bool, true, false, true≢false}
-use mathlib.Core.List.{List}
+use mathlib.Core.List.{List, []}
 use lib.IntN.{ℤ}
 use lib.ListN.{length, drop, length-drop}
 use Rattle.districts.specs.Register.{Register}
-use Rattle.districts.specs.Lent.{Lists, formed, means}
+use Rattle.districts.specs.Lent.{Lists, formed, means, written}
 use Rattle.tally.specs.declared.Tally.{Tally}
 use Rattle.history.specs.Histories.{Call}
 use Rattle.records.specs.Layout.{Front, whole, more, broken, front}
-use Rattle.records.specs.Decoding.{takenFor}
+use Rattle.records.specs.Decoding.{takenFor, writtenFor}
 use Rattle.records.proofs.Sizes.{whole-size}
 use Rattle.wording.specs.Text.{Laid}
 use Rattle.wording.specs.Lines.{Kind, outline, Said, ok, line, room}
 use Rattle.wording.proofs.Written.{line-short}
-use Rattle.applying.specs.declared.Advanced.{Advanced}
-use Rattle.applying.specs.Replies.{replied, kindOf}
-use Rattle.applying.specs.Advancing.{Told, answered, unfinished, unreadable, toldOf, toldFor, LeftFor, talliedFor, AdvancedBy}
+use Rattle.stream.specs.declared.Advanced.{Advanced}
+use Rattle.stream.specs.Replies.{replied, kindOf}
+use Rattle.stream.specs.Advancing.{Told, answered, unfinished, unreadable, toldOf, toldFor, LeftFor, talliedFor, AdvancedBy}
 use Rattle.stream.specs.declared.Stop.{Stop}
 use Rattle.stream.specs.declared.Page.{Page}
 use Rattle.stream.specs.Printing.{Stopped, numbers, Wrote, TurnedBy}
@@ -68,10 +68,10 @@ told-broken broken wellFormed g t e = refl
 abbrev pub endedAs : Page → Stop → Page
 endedAs p s = record { at = p .at; filled = p .filled; records = p .records; tally = p .tally; going = false; stop = s }
 
-pub rests : (bytes : List ℕ) (p : Page) (l : Lists) (to : List ℕ) (q : Page) (l′ : Lists) (s : Stop) → q ≡ endedAs p s → l ≡ l′ → Stopped s (length to - p .filled) (drop (p .at) bytes) → TurnedBy bytes p l to q l′ to
-rests bytes p l to q l′ s e same why = record {
+pub rests : (bytes : List ℕ) (p : Page) (l : Lists) (list : List ℤ) (to : List ℕ) (q : Page) (l′ : Lists) (list′ : List ℤ) (s : Stop) → q ≡ endedAs p s → l ≡ l′ → list ≡ list′ → Stopped s (length to - p .filled) (drop (p .at) bytes) → TurnedBy bytes p l list to q l′ list′ to
+rests bytes p l list to q l′ list′ s e same noted why = record {
   goes = λ g. absurd (true≢false (sym g ∙ ap (λ (x : Page). x .going) e));
-  ends = λ g. record { page = e ∙ (λ i. endedAs p (stops i)); lists = same; text = refl; why = subst (λ x. Stopped x (length to - p .filled) (drop (p .at) bytes)) stops why };
+  ends = λ g. record { page = e ∙ (λ i. endedAs p (stops i)); lists = same; coordinates = noted; text = refl; why = subst (λ x. Stopped x (length to - p .filled) (drop (p .at) bytes)) stops why };
 }
   where
     stops : s ≡ q .stop
@@ -91,8 +91,10 @@ module _ (bytes : List ℕ) (p : Page) (before after : Lists) (r : Advanced) (le
   pub tells-broken : toldOf (r .told) ≡ unreadable → front rest ≡ broken
   tells-broken e = told-broken (front rest) _ _ _ (tells unreadable e)
 
-  pub ends-with : (x : Front) (s : Stop) (q : Page) (to : List ℕ) → front rest ≡ x → (LeftFor x before after → before ≡ after) → q ≡ endedAs p s → Stopped s (length to - p .filled) rest → TurnedBy bytes p before to q after to
-  ends-with x s q to there same is why = rests bytes p before to q after s is (same (subst (λ y. LeftFor y before after) there (by .left))) why
+  pub ends-with : (x : Front) (s : Stop) (q : Page) (to : List ℕ) → front rest ≡ x → (LeftFor x before after → before ≡ after) → writtenFor x ≡ [] → q ≡ endedAs p s → Stopped s (length to - p .filled) rest → TurnedBy bytes p before lent to q after lent′ to
+  ends-with x s q to there same none is why =
+      let left = subst (λ y. LeftFor y before after) there (by .left) in
+      rests bytes p before lent to q after lent′ s is (same left) (sym (by .coordinates ∙ ap (λ xs. written xs lent) (ap writtenFor there ∙ none))) why
 
   -- ---- a turn that goes on
 
@@ -104,13 +106,13 @@ module _ (bytes : List ℕ) (p : Page) (before after : Lists) (r : Advanced) (le
       omega (arith, h, size .least, size .there, length-drop (p .at) bytes)
 
   pub goes-on : (k : Kind) (s : Said) (q : Page) (to to′ : List ℕ) → formed before ≡ true → p .filled + room ≤ length to → toldOf (r .told) ≡ answered k s → q .at ≡ p .at + r .taken → q .records ≡ p .records + 1 → q .tally ≡ r .tally → q .going ≡ true
-      → Laid (q .filled) (p .filled) (line (p .records) k s) to to′ → TurnedBy bytes p before to q after to′
+      → Laid (q .filled) (p .filled) (line (p .records) k s) to to′ → TurnedBy bytes p before lent to q after lent′ to′
   goes-on k s q to to′ good places e at n t on laid = record { goes = λ g. wrote; ends = λ g. absurd (true≢false (sym on ∙ g)) }
     where
       there : Whole (front rest) k s (formed before) (means before) (p .tally)
       there = told-whole (front rest) k s _ _ _ (tells (answered k s) e)
 
-      wrote : Wrote bytes p before to q after to′
+      wrote : Wrote bytes p before lent to q after lent′ to′
       wrote =
           let c = there .call in
           let left = subst (λ x. LeftFor x before after) (there .is) (by .left) in
@@ -121,9 +123,11 @@ module _ (bytes : List ℕ) (p : Page) (before after : Lists) (r : Advanced) (le
             size = there .size;
             is = there .is;
             at = at ∙ ap (λ m. p .at + m) (by .taken ∙ ap takenFor (there .is));
+            roomy = omega (arith, places);
             form = stepped c before after good left .0;
             desk = desk-next c (p .tally) (q .tally) before after good left tallies;
             records = n;
+            coordinates = by .coordinates ∙ ap (λ x. written (writtenFor x) lent) (there .is);
             text = subst (λ x. Laid (q .filled) (p .filled) x to to′) (λ i. line (p .records) (there .kind i) (said i)) laid;
             fits = omega (arith, places, laid .behind, line-short (p .records) k s);
           }

@@ -10,7 +10,11 @@ use Rattle.records.specs.Decoding.{takenFor}
 use Rattle.records.proofs.Fronts.{front-short}
 use Rattle.records.proofs.Sizes.{whole-size}
 use Rattle.stream.specs.Streams.{andThen, callsWithin, behindIt, leftWithin, callsOf, leftOf}
-use Rattle.stream.specs.Progress.{Ended}
+
+-- no record stands at the front
+pub record Ended (bytes : List ℕ) : Type 0 where
+  pub calls : callsOf bytes ≡ []
+  pub left : leftOf bytes ≡ bytes
 
 -- fewer bytes are left behind a record
 fewer : (bytes : List ℕ) (c : Call) (n f : ℕ) → front bytes ≡ whole c n → length bytes ≤ suc f → length (drop n bytes) ≤ f

@@ -5,17 +5,22 @@ use mathlib.Core.List.{List, [], _∷_, _++_}
 use lib.ListN.{length}
 use Rattle.districts.specs.Register.{Register}
 use Rattle.districts.specs.Answers.{Answer}
+use Rattle.districts.specs.Lent.{Lists, means}
 use Rattle.register.specs.Placing.{assignedAt}
 use Rattle.tally.specs.declared.Tally.{Tally}
 use Rattle.tally.specs.Tally.{fresh, onesOf}
 use Rattle.history.specs.Histories.{Call, founding, splitting, merging, reporting, empty, step}
 use Rattle.wording.specs.Lines.{line, endLine, broken, refused}
-use Rattle.applying.specs.Replies.{replied, talliedBy, kindOf}
+use Rattle.stream.specs.Replies.{replied, talliedBy, kindOf}
 use Rattle.stream.specs.Streams.{callsOf, brokenOff}
 
 pub record Desk : Type 0 where
   pub register : Register
   pub tally : Tally
+
+-- the desk that lists and a tally are
+abbrev pub deskOf : Lists → Tally → Desk
+deskOf l t = record { register = means l; tally = t }
 
 -- an empty register and a fresh tally
 abbrev pub opening : Desk
@@ -42,10 +47,14 @@ unfoldable pub answersFrom : Register → List Call → List Answer
 answersFrom g [] = []
 answersFrom g (c ∷ cs) = heard g c (answersFrom (step g c) cs)
 
+-- the line of a record with number n
+abbrev pub lineOf : ℕ → Desk → Call → List ℕ
+lineOf n k c = line n (kindOf c) (replied true (k .register) (k .tally) c)
+
 -- the lines of records from number n on
 unfoldable pub linesFrom : ℕ → Desk → List Call → List ℕ
 linesFrom n k [] = []
-linesFrom n k (c ∷ cs) = line n (kindOf c) (replied true (k .register) (k .tally) c) ++ linesFrom (n + 1) (next k c) cs
+linesFrom n k (c ∷ cs) = lineOf n k c ++ linesFrom (n + 1) (next k c) cs
 
 -- the line of a record that ends the reading
 abbrev pub brokenLine : Bool → ℕ → List ℕ
@@ -55,6 +64,6 @@ brokenLine false n = []
 abbrev pub lastLine : ℕ → Tally → List ℕ
 lastLine records t = endLine records (onesOf t) (t .border) (t .none) (t .several)
 
--- all that is printed for a stream. No promise can speak of what a program writes: that `group` writes this is tested
+-- all that is printed for a stream
 unfoldable pub output : List ℕ → List ℕ
 output bytes = linesFrom 0 opening (callsOf bytes) ++ brokenLine (brokenOff bytes) (length (callsOf bytes)) ++ lastLine (length (callsOf bytes)) (through opening (callsOf bytes) .tally)

@@ -1,5 +1,6 @@
+pub mod Replies
+pub mod Advancing
 pub mod Streams
 pub mod Desks
-pub mod Running
-pub mod Progress
 pub mod Printing
+pub mod Pieces

@@ -1,5 +1,6 @@
 -- Document 01, "Record stream": the records of a whole stream, one behind the other, and what is left behind them. Assumes nothing.
 use Prim.Native.Nat.{ℕ, zero, suc}
+use mathlib.Core.Path.{_≡_}
 use mathlib.Core.Bool.{Bool}
 use mathlib.Core.List.{List, [], _∷_}
 use lib.Dec.{ltb}
@@ -38,3 +39,8 @@ leftOf bytes = leftWithin (length bytes) bytes
 -- a cut or a broken record, or trailing bytes: refusal 13
 abbrev pub brokenOff : List ℕ → Bool
 brokenOff bytes = ltb 0 (length (leftOf bytes))
+
+-- the bytes start with the records of these calls, one behind the other, and the rest is what is behind them
+unfoldable pub Starts : List ℕ → List Call → List ℕ → Type 0
+Starts bytes [] rest = bytes ≡ rest
+Starts bytes (c ∷ cs) rest = (n : ℕ) × (front bytes ≡ whole c n) × Starts (drop n bytes) cs rest

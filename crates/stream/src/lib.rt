@@ -1,20 +1,31 @@
-// The records of a stream, one after the other. `run` takes a whole stream as one slice, from an empty register and a fresh tally, and has no
-// `requires`. `print` takes a piece of a stream, as the grouping program reads it, and writes the records' lines.
+// The records of a stream. `advance` takes the record at the front of some bytes: it is decoded and made a call on the register, and a
+// report's answer is counted. `print` takes one record after the other, as the grouping program reads them, and writes their lines.
+// `advance` has no `requires`; without a whole record it changes nothing.
+mod advancing;
+mod calling;
+mod counting;
 mod printing;
-mod reading;
+mod saying;
 
+pub use advancing::advance;
 pub use printing::print;
 use tally::Tally;
-ghost use Rattle.stream.specs.Running.{GroupedBy};
+use wording::Kind;
+use wording::Said;
 
-// The register's three lists and the tally after a stream, how many records it has, and whether a broken one ended it.
-pub struct Grouped {
-    pub outline: [i32; 4096],
-    pub store: [i32; 4096],
-    pub runs: [u32; 129],
+pub enum Told {
+    Answered(Kind, Said),
+    // The beginning of a record.
+    More,
+    // Refusal 13.
+    Broken,
+}
+
+// What was told, how many bytes the record has, and the tally after it.
+pub struct Advanced {
+    pub told: Told,
+    pub taken: usize,
     pub tally: Tally,
-    pub records: usize,
-    pub broken: bool,
 }
 
 // Why printing stopped.
@@ -35,23 +46,4 @@ pub struct Page {
     pub tally: Tally,
     pub going: bool,
     pub stop: Stop,
-}
-
-pub fn run(bytes: &[u8]) -> Grouped
-    ensures { λ r. ⌜ GroupedBy r (now (bytes .entry)) ⌝ }
-{
-    let mut coordinates = [0i32; 4096];
-    let mut outline = [0i32; 4096];
-    let mut store = [0i32; 4096];
-    let mut runs = [0u32; 129];
-    let end = reading::read(bytes, &mut coordinates, &mut outline, &mut store, &mut runs);
-    let tally = end.tally;
-    Grouped {
-        outline,
-        store,
-        runs,
-        tally,
-        records: end.records,
-        broken: end.at < bytes.len(),
-    }
 }

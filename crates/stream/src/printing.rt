@@ -2,14 +2,15 @@
 // no whole record.
 use crate::Page;
 use crate::Stop;
-use applying::Told;
+use crate::Told;
+use crate::advancing;
 use tally::Tally;
 ghost use mathlib.Core.Path.{_≡_};
 ghost use mathlib.Core.Bool.{true, false};
 ghost use Prim.Native.Nat.{_+_, _<_};
 ghost use lib.ListN.{length};
 ghost use Rattle.districts.specs.Lent.{formed};
-ghost use Rattle.stream.specs.Progress.{deskOf};
+ghost use Rattle.stream.specs.Desks.{deskOf};
 ghost use Rattle.stream.specs.Printing.{Printed, numbers, Ready, TurnedBy};
 
 fn ended(p: Page, stop: Stop) -> Page
@@ -26,7 +27,7 @@ fn ended(p: Page, stop: Stop) -> Page
     }
 }
 
-fn one(
+fn print_record(
     bytes: &[u8],
     coordinates: &mut [i32; 4096],
     outline: &mut [i32],
@@ -36,14 +37,14 @@ fn one(
     p: Page,
 ) -> Page
     requires { ⌜ Ready (now bytes) p (record { outline = now outline; store = now store; runs = now runs }) (now to) ⌝ }
-    ensures { λ q. ⌜ TurnedBy (now (bytes .entry)) p (record { outline = now (outline .entry); store = now (store .entry); runs = now (runs .entry) }) (now (to .entry)) q (record { outline = now (outline .exit); store = now (store .exit); runs = now (runs .exit) }) (now (to .exit)) ⌝ }
+    ensures { λ q. ⌜ TurnedBy (now (bytes .entry)) p (record { outline = now (outline .entry); store = now (store .entry); runs = now (runs .entry) }) (now (coordinates .entry)) (now (to .entry)) q (record { outline = now (outline .exit); store = now (store .exit); runs = now (runs .exit) }) (now (coordinates .exit)) (now (to .exit)) ⌝ }
 {
     let at = p.at;
     let filled = p.filled;
     if to.len() - filled < wording::ROOM {
         return ended(p, Stop::Full);
     }
-    let r = applying::advance(&bytes[at..], coordinates, outline, store, runs, p.tally);
+    let r = advancing::advance(&bytes[at..], coordinates, outline, store, runs, p.tally);
     let told = r.told;
     let tally = r.tally;
     match told {
@@ -72,7 +73,7 @@ pub fn print(
 ) -> Page
     requires { ⌜ formed (record { outline = now outline; store = now store; runs = now runs }) ≡ true ⌝ }
     requires { ⌜ number + length (now bytes) < numbers ⌝ }
-    ensures { λ r. ⌜ Printed (now (bytes .entry)) (deskOf (record { outline = now (outline .entry); store = now (store .entry); runs = now (runs .entry) }) tally) number (now (to .entry)) r (record { outline = now (outline .exit); store = now (store .exit); runs = now (runs .exit) }) (now (to .exit)) × (r .going ≡ false) ⌝ }
+    ensures { λ r. ⌜ Printed (now (bytes .entry)) (deskOf (record { outline = now (outline .entry); store = now (store .entry); runs = now (runs .entry) }) tally) number (now (coordinates .entry)) (now (to .entry)) r (record { outline = now (outline .exit); store = now (store .exit); runs = now (runs .exit) }) (now (coordinates .exit)) (now (to .exit)) × (r .going ≡ false) ⌝ }
 {
     let mut p = Page {
         at: 0,
@@ -83,7 +84,7 @@ pub fn print(
         stop: Stop::More,
     };
     while p.going {
-        p = one(bytes, coordinates, outline, store, runs, to, p);
+        p = print_record(bytes, coordinates, outline, store, runs, to, p);
     }
     p
 }

@@ -8,7 +8,6 @@ use Rattle.districts.specs.Counts.{sumTo}
 use Rattle.districts.specs.Register.{numbers}
 use Rattle.districts.specs.Answers.{Belongs, border, one, none, several, Answer, report, refused}
 use Rattle.tally.specs.declared.Tally.{Tally}
-use Rattle.tally.specs.declared.Raised.{Raised}
 
 -- the largest number that a count can be
 abbrev pub most : ℕ
@@ -35,16 +34,16 @@ uncounted (several d n) = false
 abbrev pub full : Tally → Belongs → Bool
 full t b = uncounted b || eqb (countOf t b) most
 
--- the count of the class raised by one, the others as they were
-abbrev pub raised : Tally → Belongs → Tally
-raised t (border d) = record { ones = t .ones; border = t .border + 1; none = t .none; several = t .several }
-raised t (one d) = record { ones = set (t .ones) d (getD (t .ones) d 0 + 1); border = t .border; none = t .none; several = t .several }
-raised t none = record { ones = t .ones; border = t .border; none = t .none + 1; several = t .several }
-raised t (several d n) = record { ones = t .ones; border = t .border; none = t .none; several = t .several + 1 }
+-- another count for the class, the others as they were
+abbrev pub counting : Tally → Belongs → ℕ → Tally
+counting t (border d) n = record { ones = t .ones; border = n; none = t .none; several = t .several }
+counting t (one d) n = record { ones = set (t .ones) d n; border = t .border; none = t .none; several = t .several }
+counting t none n = record { ones = t .ones; border = t .border; none = n; several = t .several }
+counting t (several d m) n = record { ones = t .ones; border = t .border; none = t .none; several = n }
 
--- a full count is left, and told
-abbrev pub raising : Tally → Belongs → Raised
-raising t b = record { tally = cond (full t b) t (raised t b); full = full t b }
+-- the count of the class raised by one
+abbrev pub raised : Tally → Belongs → Tally
+raised t b = counting t b (countOf t b + 1)
 
 -- the tally after an answer: a refusal moves no count, nor does a report whose count is full
 abbrev pub tallied : Tally → Answer → Tally

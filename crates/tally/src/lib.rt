@@ -1,28 +1,23 @@
 // The tally of assigned reports: a count for each of the 64 district numbers, raised for One, and one each for Border, None and
 // Several. `count` raises it where the caller keeps it, one report at a time. No public function has a `requires`.
 ghost use mathlib.Core.Path.{_≡_};
-ghost use Prim.Native.Nat.{ℕ};
-ghost use Rattle.districts.specs.Answers.{border, one, none, several, belongs, answerOf};
-ghost use Rattle.tally.specs.Tally.{fresh, raising, onesOf, tallied, answered};
+ghost use mathlib.Core.Bool.{false, cond};
+ghost use Rattle.districts.specs.Answers.{belongs, answerOf};
+ghost use Rattle.tally.specs.Tally.{most, fresh, countOf, uncounted, counting, onesOf, tallied, answered};
 use districts::Assigned;
 use districts::Class;
 use districts::NUMBERS;
 use districts::Report;
 use refusals::Refusal;
 
-const MOST: u32 = 4_294_967_295;
+// The largest number that a count can be.
+pub const MOST: u32 = 4_294_967_295;
 
 pub struct Tally {
     pub ones: [u32; 64],
     pub border: u32,
     pub none: u32,
     pub several: u32,
-}
-
-// The tally after one class, and whether its count was full: then the tally is as it was.
-pub struct Raised {
-    pub tally: Tally,
-    pub full: bool,
 }
 
 // The tally after one answer, and the answer that is then given.
@@ -44,110 +39,54 @@ impl Tally {
     }
 }
 
-fn raise_border(t: Tally) -> Raised
-    ensures { λ r. ⌜ ((d : ℕ) → r ≡ raising t (border d)) ⌝ }
-{
-    if t.border == MOST {
-        return Raised {
-            tally: t,
-            full: true,
-        };
-    }
-    let mut next = t;
-    next.border = t.border + 1;
-    Raised {
-        tally: next,
-        full: false,
-    }
-}
-
-// A number above 63 has no count: nothing is raised, as where a count is full.
-fn raise_one(t: Tally, d: usize) -> Raised
-    ensures { λ r. ⌜ r ≡ raising t (one d) ⌝ }
-{
-    if NUMBERS <= d {
-        return Raised {
-            tally: t,
-            full: true,
-        };
-    }
-    let mut next = t;
-    let n = next.ones[d];
-    if n == MOST {
-        return Raised {
-            tally: t,
-            full: true,
-        };
-    }
-    next.ones[d] = n + 1;
-    Raised {
-        tally: next,
-        full: false,
-    }
-}
-
-fn raise_none(t: Tally) -> Raised
-    ensures { λ r. ⌜ r ≡ raising t none ⌝ }
-{
-    if t.none == MOST {
-        return Raised {
-            tally: t,
-            full: true,
-        };
-    }
-    let mut next = t;
-    next.none = t.none + 1;
-    Raised {
-        tally: next,
-        full: false,
-    }
-}
-
-fn raise_several(t: Tally) -> Raised
-    ensures { λ r. ⌜ ((d n : ℕ) → r ≡ raising t (several d n)) ⌝ }
-{
-    if t.several == MOST {
-        return Raised {
-            tally: t,
-            full: true,
-        };
-    }
-    let mut next = t;
-    next.several = t.several + 1;
-    Raised {
-        tally: next,
-        full: false,
-    }
-}
-
-// The count of the class raised by one; a full count is left.
-pub fn raise(t: Tally, c: Class) -> Raised
-    ensures { λ r. ⌜ r ≡ raising t (belongs c) ⌝ }
+// The count that a class raises; a number above 63 has none, as if it were full: assigning never gives one.
+fn count_of(t: Tally, c: Class) -> u32
+    ensures { λ r. ⌜ r ≡ cond (uncounted (belongs c)) most (countOf t (belongs c)) ⌝ }
 {
     match c {
-        Class::Border(_) => raise_border(t),
-        Class::One(d) => raise_one(t, d),
-        Class::None => raise_none(t),
-        Class::Several(_, _) => raise_several(t),
+        Class::Border(_) => t.border,
+        Class::One(d) => {
+            if NUMBERS <= d {
+                return MOST;
+            }
+            let ones = t.ones;
+            ones[d]
+        }
+        Class::None => t.none,
+        Class::Several(_, _) => t.several,
     }
 }
 
-// A sorted report is counted and answered as it is, or refused where its count is full.
-fn sorted(t: Tally, report: Report) -> Outcome
+// The tally with another count for a class that has one.
+fn with_count(t: Tally, c: Class, n: u32) -> Tally
+    requires { ⌜ uncounted (belongs c) ≡ false ⌝ }
+    ensures { λ r. ⌜ r ≡ counting t (belongs c) n ⌝ }
+{
+    let mut next = t;
+    match c {
+        Class::Border(_) => next.border = n,
+        Class::One(d) => next.ones[d] = n,
+        Class::None => next.none = n,
+        Class::Several(_, _) => next.several = n,
+    }
+    next
+}
+
+// A sorted report raises the count of its class by one and is answered as it is; where the count is full, it is refused.
+fn raise(t: Tally, report: Report) -> Outcome
     ensures { λ r. ⌜ (r .tally ≡ tallied t (answerOf (Assigned.Sorted report)))
         × (answerOf (r .answer) ≡ answered t (answerOf (Assigned.Sorted report))) ⌝ }
 {
     let class = report.class;
-    let r = raise(t, class);
-    let tally = r.tally;
-    if r.full {
+    let n = count_of(t, class);
+    if n == MOST {
         return Outcome {
-            tally,
+            tally: t,
             answer: Assigned::Refused(Refusal::CountFull),
         };
     }
     Outcome {
-        tally,
+        tally: with_count(t, class, n + 1),
         answer: Assigned::Sorted(report),
     }
 }
@@ -157,7 +96,7 @@ pub fn counted(t: Tally, a: Assigned) -> Outcome
     ensures { λ r. ⌜ (r .tally ≡ tallied t (answerOf a)) × (answerOf (r .answer) ≡ answered t (answerOf a)) ⌝ }
 {
     match a {
-        Assigned::Sorted(report) => sorted(t, report),
+        Assigned::Sorted(report) => raise(t, report),
         Assigned::Refused(_) => Outcome {
             tally: t,
             answer: a,

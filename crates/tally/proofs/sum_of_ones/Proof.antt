@@ -8,11 +8,12 @@ use mir.Val.{Fits}
 use borrow.Author.Needs.{needs}
 use Rattle.districts.specs.Counts.{sumTo}
 use Rattle.districts.proofs.Counting.{sum-none, sum-more, sum-end}
+use Rattle.tally.specs.Tally.{most}
 use Rattle.tally.proofs.sum_of_ones.Statement.{statement}
 use Rattle.tally.proofs.sum_of_ones.Tie as tie
 
 abbrev Inv-loop : tie.InvT-loop
-Inv-loop ones sum₀ d₀ sum d = (d ≤ 64) × ((sum ≡ sumTo d (λ k. getD ones k 0)) × (sum ≤ d * 4_294_967_295))
+Inv-loop ones sum₀ d₀ sum d = (d ≤ 64) × ((sum ≡ sumTo d (λ k. getD ones k 0)) × (sum ≤ d * most))
 
 abbrev μ-loop : tie.MeasureT-loop
 μ-loop ones sum₀ d₀ sum d = 64 - d

@@ -2,7 +2,7 @@
 use mathlib.Core.Path.{_≡_, refl}
 use lib.ListN.{length}
 use borrow.Author.Needs.{needs}
-use Rattle.stream.specs.Progress.{deskOf}
+use Rattle.stream.specs.Desks.{deskOf}
 use Rattle.stream.specs.Printing.{Printed}
 use Rattle.stream.proofs.Steps.{remaining, falls}
 use Rattle.stream.proofs.Pages.{printed-none, printed-more, ready, onward, stayed}
@@ -11,7 +11,7 @@ use Rattle.stream.proofs.printing.print.Tie as tie
 
 abbrev Inv-loop : tie.InvT-loop
 Inv-loop bytes coordinates₀ outline₀ store₀ runs₀ to₀ number p₀ coordinates outline store runs to p =
-    Printed bytes (deskOf (record { outline = outline₀; store = store₀; runs = runs₀ }) (p₀ .tally)) number to₀ p (record { outline = outline; store = store; runs = runs }) to
+    Printed bytes (deskOf (record { outline = outline₀; store = store₀; runs = runs₀ }) (p₀ .tally)) number coordinates₀ to₀ p (record { outline = outline; store = store; runs = runs }) coordinates to
     × (length to ≡ length to₀) × (length outline ≡ length outline₀) × (length store ≡ length store₀) × (length runs ≡ length runs₀)
 
 abbrev μ-loop : tie.MeasureT-loop
@@ -20,27 +20,27 @@ abbrev μ-loop : tie.MeasureT-loop
 loop-holds : tie.Need-loop-holds Inv-loop μ-loop
 loop-holds c =
     let start = c .before .before .before in
-    (printed-none _ _ _ _ _ (start .pre .0), refl, refl, refl, refl)
+    (printed-none _ _ _ _ _ _ (start .pre .0), refl, refl, refl, refl)
 
-one-requires : tie.Need-one-requires Inv-loop μ-loop
-one-requires c κs =
+print-record-requires : tie.Need-print-record-requires Inv-loop μ-loop
+print-record-requires c κs =
     let held = c .before .before .before .before .before .before .loop .inv in
     let start = c .before .before .before .before .before .before .before .before .before .before in
-    ready _ _ _ _ _ _ _ (held .0) (held .1) (start .pre .1)
+    ready _ _ _ _ _ _ _ _ _ (held .0) (held .1) (start .pre .1)
 
 loop-less : tie.Need-loop-less Inv-loop μ-loop
 loop-less c =
     let called = c .before .before .before .before .before .before in
     let turn = called .before .before .before .before .before .before in
     let held = turn .before .loop .inv in
-    let turned = called .one .ensures in
-    falls _ _ _ _ _ (turn .loop-test .taken) (printed-more _ _ _ _ _ _ _ (held .0) _ _ _ (held .1) turned .there) (onward _ _ _ _ _ _ _ (held .0) _ _ _ turned) (stayed _ _ _ _ _ _ _ (held .0) _ _ _ turned)
+    let turned = called .print-record .ensures in
+    falls _ _ _ _ _ (turn .loop-test .taken) (printed-more _ _ _ _ _ _ _ _ _ (held .0) _ _ _ _ (held .1) turned .there) (onward _ _ _ _ _ _ _ _ _ (held .0) _ _ _ _ turned) (stayed _ _ _ _ _ _ _ _ _ (held .0) _ _ _ _ turned)
 
 loop-again : tie.Need-loop-again Inv-loop μ-loop
 loop-again c =
     let called = c .before .before .before .before .before .before in
     let held = called .before .before .before .before .before .before .before .loop .inv in
-    (printed-more _ _ _ _ _ _ _ (held .0) _ _ _ (held .1) (called .one .ensures), search (needs, held .1), search (needs, held .2), search (needs, held .3), search (needs, held .4))
+    (printed-more _ _ _ _ _ _ _ _ _ (held .0) _ _ _ _ (held .1) (called .print-record .ensures), search (needs, held .1), search (needs, held .2), search (needs, held .3), search (needs, held .4))
 
 same-length : tie.Need-same-length Inv-loop μ-loop
 same-length c = c .before .loop .inv .2
@@ -64,7 +64,7 @@ print-spec =
     Inv-loop
     μ-loop
     loop-holds
-    one-requires
+    print-record-requires
     loop-less
     loop-again
     same-length

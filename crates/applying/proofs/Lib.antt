@@ -1,3 +1,0 @@
-pub mod Replying
-pub mod Taking
-pub mod Unique

@@ -1,0 +1,171 @@
+-- `stream::advancing::advance` meets its contract: each arm makes the call that was decoded. Assumes nothing.
+use native.Mathlib.Omega.{arith}
+use mathlib.Core.Path.{_≡_, refl, sym, ap, _∙_}
+use lib.ListN.{length}
+use borrow.Author.Needs.{needs}
+use Rattle.wording.specs.Lines.{outline, split, merge}
+use Rattle.records.specs.Decoding.{frontOf}
+use Rattle.stream.specs.Replies.{talliedBy}
+use Rattle.stream.specs.Advancing.{answered}
+use Rattle.stream.proofs.Taking.{advanced, outline-fits, path-fits}
+use Rattle.stream.proofs.advancing.advance.Statement.{statement}
+use Rattle.stream.proofs.advancing.advance.Tie as tie
+
+abbrev start : tie.After-decode → tie.Start
+start read = read .before .before .before .before
+
+decode-requires : tie.Need-decode-requires
+decode-requires c κs = search needs
+
+enum-known-front : tie.Need-enum-known-front
+enum-known-front c = search needs
+
+outline-requires : tie.Need-outline-requires
+outline-requires c κs =
+    let read = c .before .before .before .before .before .before .before .before in
+    let decoded = read .decode .ensures in
+    let long : length (read .decode .last .1 .0) ≡ 4096 = search needs in
+    let n = c .before .before .before .before .before .before .front .given .0 .0 in
+    let fits = outline-fits (start read .args .bytes .now) (read .decode .last .1 .0) (read .decode .result .taken) n (sym (ap (λ q. frontOf q (read .decode .result .taken) (read .decode .last .1 .0)) (c .before .before .before .before .before .before .front .given .1)) ∙ decoded .said) in
+    omega (arith, long, fits)
+
+enum-known-front-2 : tie.Need-enum-known-front-2
+enum-known-front-2 c = search needs
+
+split-requires : tie.Need-split-requires
+split-requires c κs =
+    let read = c .before .before .before .before .before .before .before .before in
+    let decoded = read .decode .ensures in
+    let long : length (read .decode .last .1 .0) ≡ 4096 = search needs in
+    let k = c .before .before .before .before .before .before .front2 .given .0 .1 .1 .1 .0 in
+    let fits = path-fits (start read .args .bytes .now) (read .decode .last .1 .0) (read .decode .result .taken) _ _ _ k (sym (ap (λ q. frontOf q (read .decode .result .taken) (read .decode .last .1 .0)) (c .before .before .before .before .before .before .front2 .given .1)) ∙ decoded .said) in
+    omega (arith, long, fits)
+
+enum-known-front-3 : tie.Need-enum-known-front-3
+enum-known-front-3 c = search needs
+
+merge-requires : tie.Need-merge-requires
+merge-requires c κs = search needs
+
+enum-known-front-4 : tie.Need-enum-known-front-4
+enum-known-front-4 c = search needs
+
+report-requires : tie.Need-report-requires
+report-requires c κs = search needs
+
+enum-told : tie.Need-enum-told
+enum-told c = search needs
+
+enum-told-2 : tie.Need-enum-told-2
+enum-told-2 c = search needs
+
+same-length : tie.Need-same-length
+same-length c = search needs
+
+same-length-2 : tie.Need-same-length-2
+same-length-2 c = search needs
+
+same-length-3 : tie.Need-same-length-3
+same-length-3 c = search needs
+
+returns : tie.Need-returns
+unfolding talliedBy
+returns c =
+    let called = c .before .before .before .before in
+    let front = called .before .before .before .before .before .before .before in
+    let read = front .before .before in
+    advanced (read .decode .result) _ _ _ _ _ _ _ _ (read .decode .ensures) (ap (λ q. frontOf q (read .decode .result .taken) (read .decode .last .1 .0)) (front .front .given .1)) refl (ap (answered outline) (called .outline .ensures .answer (start read .args .tally))) refl (called .outline .ensures .left)
+
+same-length-4 : tie.Need-same-length-4
+same-length-4 c = search needs
+
+same-length-5 : tie.Need-same-length-5
+same-length-5 c = search needs
+
+same-length-6 : tie.Need-same-length-6
+same-length-6 c = search needs
+
+returns-2 : tie.Need-returns-2
+unfolding talliedBy
+returns-2 c =
+    let called = c .before .before .before in
+    let front = called .before .before .before .before .before .before .before in
+    let read = front .before .before in
+    advanced (read .decode .result) _ _ _ _ _ _ _ _ (read .decode .ensures) (ap (λ q. frontOf q (read .decode .result .taken) (read .decode .last .1 .0)) (front .front2 .given .1)) refl (ap (answered split) (called .split .ensures .answer (start read .args .tally))) refl (called .split .ensures .left)
+
+same-length-7 : tie.Need-same-length-7
+same-length-7 c = search needs
+
+same-length-8 : tie.Need-same-length-8
+same-length-8 c = search needs
+
+same-length-9 : tie.Need-same-length-9
+same-length-9 c = search needs
+
+returns-3 : tie.Need-returns-3
+unfolding talliedBy
+returns-3 c =
+    let called = c .before .before .before in
+    let front = called .before .before .before .before .before in
+    let read = front .before .before in
+    advanced (read .decode .result) _ _ _ _ _ _ _ _ (read .decode .ensures) (ap (λ q. frontOf q (read .decode .result .taken) (read .decode .last .1 .0)) (front .front3 .given .1)) refl (ap (answered merge) (called .merge .ensures .answer (start read .args .tally))) refl (called .merge .ensures .left)
+
+same-length-10 : tie.Need-same-length-10
+same-length-10 c = search needs
+
+same-length-11 : tie.Need-same-length-11
+same-length-11 c = search needs
+
+same-length-12 : tie.Need-same-length-12
+same-length-12 c = search needs
+
+returns-4 : tie.Need-returns-4
+unfolding talliedBy
+returns-4 c =
+    let front = c .before .before .before .before .before in
+    let read = front .before .before in
+    advanced (read .decode .result) _ _ _ _ _ _ _ _ (read .decode .ensures) (ap (λ q. frontOf q (read .decode .result .taken) (read .decode .last .1 .0)) (front .front4 .given .1)) (c .report .ensures .taken) (c .report .ensures .told) (c .report .ensures .tally) refl
+
+returns-5 : tie.Need-returns-5
+returns-5 c =
+    let read = c .before .before in
+    advanced (read .decode .result) _ _ _ _ _ _ _ _ (read .decode .ensures) (ap (λ q. frontOf q (read .decode .result .taken) (read .decode .last .1 .0)) (c .enum-told .given .1)) refl refl refl refl
+
+returns-6 : tie.Need-returns-6
+returns-6 c =
+    let read = c .before .before in
+    advanced (read .decode .result) _ _ _ _ _ _ _ _ (read .decode .ensures) (ap (λ q. frontOf q (read .decode .result .taken) (read .decode .last .1 .0)) (c .enum-told2 .given .1)) refl refl refl refl
+
+pub advance-spec : {M : Type 1} → statement M
+advance-spec =
+    tie.close
+    (tie.spec
+    decode-requires
+    enum-known-front
+    outline-requires
+    enum-known-front-2
+    split-requires
+    enum-known-front-3
+    merge-requires
+    enum-known-front-4
+    report-requires
+    enum-told
+    enum-told-2
+    same-length
+    same-length-2
+    same-length-3
+    returns
+    same-length-4
+    same-length-5
+    same-length-6
+    returns-2
+    same-length-7
+    same-length-8
+    same-length-9
+    returns-3
+    same-length-10
+    same-length-11
+    same-length-12
+    returns-4
+    returns-5
+    returns-6)

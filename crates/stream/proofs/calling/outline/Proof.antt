@@ -1,0 +1,54 @@
+-- `stream::calling::outline` meets its contract. Assumes nothing.
+use Prim.Native.Nat.{_*_}
+use borrow.Author.Needs.{needs}
+use Rattle.stream.proofs.Replying.{founding-by}
+use Rattle.stream.proofs.calling.outline.Statement.{statement}
+use Rattle.stream.proofs.calling.outline.Tie as tie
+
+mul-end : tie.Need-mul-end
+mul-end c = search needs
+
+sub-found : tie.Need-sub-found
+sub-found c = search needs
+
+part-found-start : tie.Need-part-found-start
+part-found-start c = search needs
+
+part-found-end : tie.Need-part-found-end
+part-found-end c = search needs
+
+found-requires : tie.Need-found-requires
+found-requires c κs = search needs
+
+founded-requires : tie.Need-founded-requires
+founded-requires c κs = search needs
+
+same-length : tie.Need-same-length
+same-length c = search needs
+
+same-length-2 : tie.Need-same-length-2
+same-length-2 c = search needs
+
+same-length-3 : tie.Need-same-length-3
+same-length-3 c = search needs
+
+returns : tie.Need-returns
+returns c =
+    let called = c .before .before .before .before .before in
+    let a = called .before .before .before .before .before .before .args in
+    founding-by (called .found .result) _ (a .list .now) (2 * a .n) _ _ (called .found .ensures) (c .founded .ensures)
+
+pub outline-spec : {M : Type 1} → statement M
+outline-spec =
+    tie.close
+    (tie.spec
+    mul-end
+    sub-found
+    part-found-start
+    part-found-end
+    found-requires
+    founded-requires
+    same-length
+    same-length-2
+    same-length-3
+    returns)

@@ -1,0 +1,50 @@
+-- `stream::calling::split` meets its contract. Assumes nothing.
+use Prim.Native.Nat.{_*_}
+use borrow.Author.Needs.{needs}
+use Rattle.stream.proofs.Replying.{splitting-by}
+use Rattle.stream.proofs.calling.split.Statement.{statement}
+use Rattle.stream.proofs.calling.split.Tie as tie
+
+mul-end : tie.Need-mul-end
+mul-end c = search needs
+
+sub-split : tie.Need-sub-split
+sub-split c = search needs
+
+part-split-start : tie.Need-part-split-start
+part-split-start c = search needs
+
+part-split-end : tie.Need-part-split-end
+part-split-end c = search needs
+
+split-requires : tie.Need-split-requires
+split-requires c κs = search needs
+
+changed-requires : tie.Need-changed-requires
+changed-requires c κs = search needs
+
+same-length : tie.Need-same-length
+same-length c = search needs
+
+same-length-2 : tie.Need-same-length-2
+same-length-2 c = search needs
+
+returns : tie.Need-returns
+returns c =
+    let called = c .before .before .before .before in
+    let a = called .before .before .before .before .before .args in
+    splitting-by (called .split .result) _ (a .d) (a .i) (a .j) (a .list .now) (2 * a .k) _ _ (called .split .ensures) (c .changed .ensures)
+
+pub split-spec : {M : Type 1} → statement M
+split-spec =
+    tie.close
+    (tie.spec
+    mul-end
+    sub-split
+    part-split-start
+    part-split-end
+    split-requires
+    changed-requires
+    same-length
+    same-length-2
+    returns)

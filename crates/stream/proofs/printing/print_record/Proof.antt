@@ -1,0 +1,165 @@
+-- `stream::printing::print_record` meets its contract: no room, a record with its line, or none. Assumes nothing.
+use native.Mathlib.Omega.{arith}
+use Prim.Native.Nat.{_-_, _≤_}
+use mathlib.Core.Path.{refl, ap}
+use lib.ListN.{length}
+use borrow.Author.Needs.{needs}
+use Rattle.records.specs.Layout.{more, broken}
+use Rattle.wording.specs.Lines.{room}
+use Rattle.stream.specs.Advancing.{toldOf}
+use Rattle.stream.specs.declared.Stop.the-variants.{Full, More, Broken}
+use Rattle.stream.proofs.Steps.{seen-from, taken-there}
+use Rattle.stream.proofs.Turning.{rests, tells-more, tells-broken, ends-with, next-countable, goes-on}
+use Rattle.stream.proofs.printing.print_record.Statement.{statement}
+use Rattle.stream.proofs.printing.print_record.Tie as tie
+
+abbrev start : tie.After-advance → tie.Start
+start called = called .before .before .before .before .before .before .before .before .before .before
+
+-- there was room for a line
+roomy : (called : tie.After-advance) → room ≤ length (start called .args .to .now) - start called .args .p .filled
+roomy called = omega (arith, called .before .before .before .before .before .before .if1 .left)
+
+sub-if1 : tie.Need-sub-if1
+sub-if1 c = search needs
+
+ended-requires : tie.Need-ended-requires
+ended-requires c κs = search needs
+
+returns : tie.Need-returns
+returns c =
+    let s = c .before .before .before .before .before in
+    rests (s .args .bytes .now) (s .args .p) _ _ (s .args .to .now) (c .ended .result) _ _ Full (c .ended .ensures) refl refl (c .before .if1 .taken)
+
+sub-advance : tie.Need-sub-advance
+sub-advance c = search needs
+
+part-advance-start : tie.Need-part-advance-start
+part-advance-start c = search needs
+
+part-advance-end : tie.Need-part-advance-end
+part-advance-end c = search needs
+
+advance-requires : tie.Need-advance-requires
+advance-requires c κs = search needs
+
+enum-known-told : tie.Need-enum-known-told
+enum-known-told c = search needs
+
+add-t30 : tie.Need-add-t30
+add-t30 c =
+    let called = c .before .before .before .before .before .before .before .before .before in
+    let a = start called .args in
+    let fits = taken-there (a .bytes .now) (a .p .at) (called .advance .result) _ _ _ _ _ (start called .pre .there) (seen-from (a .bytes .now) (a .p .at) _ _ _ _ _ _ (called .advance .ensures)) in
+    record { fits = omega (arith, fits, start called .pre .long) }
+
+line-at-requires : tie.Need-line-at-requires
+line-at-requires c κs = search needs
+
+add-t34 : tie.Need-add-t34
+add-t34 c =
+    let told = c .before .before .before .before .before .before .before in
+    let called = told .before .before .before .before .before .before .before in
+    let a = start called .args in
+    let by = seen-from (a .bytes .now) (a .p .at) _ _ _ _ _ _ (called .advance .ensures) in
+    record { fits = next-countable (a .bytes .now) (a .p) _ _ (called .advance .result) _ _ by _ _ (ap toldOf (told .told .given .1)) (start called .pre .countable) }
+
+enum-told : tie.Need-enum-told
+enum-told c = search needs
+
+ended-requires-2 : tie.Need-ended-requires-2
+ended-requires-2 c κs = search needs
+
+enum-told-2 : tie.Need-enum-told-2
+enum-told-2 c = search needs
+
+ended-requires-3 : tie.Need-ended-requires-3
+ended-requires-3 c κs = search needs
+
+same-length : tie.Need-same-length
+same-length c = search needs
+
+same-length-2 : tie.Need-same-length-2
+same-length-2 c = search needs
+
+same-length-3 : tie.Need-same-length-3
+same-length-3 c = search needs
+
+same-length-4 : tie.Need-same-length-4
+same-length-4 c = search needs
+
+returns-2 : tie.Need-returns-2
+returns-2 c =
+    let line = c .before .before .before in
+    let told = line .before .before .before .before in
+    let called = told .before .before .before .before .before .before .before in
+    let a = start called .args in
+    let by = seen-from (a .bytes .now) (a .p .at) _ _ _ _ _ _ (called .advance .ensures) in
+    goes-on (a .bytes .now) (a .p) _ _ (called .advance .result) _ _ by _ _ _ _ _ (start called .pre .form) (omega (arith, called .before .before .before .before .before .before .if1 .left, start called .pre .fits)) (ap toldOf (told .told .given .1)) refl refl refl refl (line .line-at .ensures)
+
+same-length-5 : tie.Need-same-length-5
+same-length-5 c = search needs
+
+same-length-6 : tie.Need-same-length-6
+same-length-6 c = search needs
+
+same-length-7 : tie.Need-same-length-7
+same-length-7 c = search needs
+
+returns-3 : tie.Need-returns-3
+returns-3 c =
+    let called = c .before .before .before .before .before .before .before .before in
+    let a = start called .args in
+    let by = seen-from (a .bytes .now) (a .p .at) _ _ _ _ _ _ (called .advance .ensures) in
+    let there = tells-more (a .bytes .now) (a .p) _ _ (called .advance .result) _ _ by (ap toldOf (c .before .enum-told .given .1)) in
+    ends-with (a .bytes .now) (a .p) _ _ (called .advance .result) _ _ by more More (c .ended2 .result) (a .to .now) there (λ l. l) refl (c .ended2 .ensures) (roomy called, there)
+
+same-length-8 : tie.Need-same-length-8
+same-length-8 c = search needs
+
+same-length-9 : tie.Need-same-length-9
+same-length-9 c = search needs
+
+same-length-10 : tie.Need-same-length-10
+same-length-10 c = search needs
+
+returns-4 : tie.Need-returns-4
+returns-4 c =
+    let called = c .before .before .before .before .before .before .before .before in
+    let a = start called .args in
+    let by = seen-from (a .bytes .now) (a .p .at) _ _ _ _ _ _ (called .advance .ensures) in
+    let there = tells-broken (a .bytes .now) (a .p) _ _ (called .advance .result) _ _ by (ap toldOf (c .before .enum-told2 .given .1)) in
+    ends-with (a .bytes .now) (a .p) _ _ (called .advance .result) _ _ by broken Broken (c .ended3 .result) (a .to .now) there (λ l. l) refl (c .ended3 .ensures) (roomy called, there)
+
+pub print-record-spec : {M : Type 1} → statement M
+print-record-spec =
+    tie.close
+    (tie.spec
+    sub-if1
+    ended-requires
+    returns
+    sub-advance
+    part-advance-start
+    part-advance-end
+    advance-requires
+    enum-known-told
+    add-t30
+    line-at-requires
+    add-t34
+    enum-told
+    ended-requires-2
+    enum-told-2
+    ended-requires-3
+    same-length
+    same-length-2
+    same-length-3
+    same-length-4
+    returns-2
+    same-length-5
+    same-length-6
+    same-length-7
+    returns-3
+    same-length-8
+    same-length-9
+    same-length-10
+    returns-4)
