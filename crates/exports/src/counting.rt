@@ -10,9 +10,6 @@ ghost use lib.ListN.{length};
 ghost use Rattle.districts.specs.Answers.{one, belongs, answerOf};
 ghost use Rattle.exports.specs.Counts.{counts, placeOf, CountedBy};
 
-// The largest number that a count can be.
-const MOST: u32 = 4_294_967_295;
-
 const BORDER: usize = 64;
 
 const NONE: usize = 65;
@@ -49,7 +46,7 @@ fn sorted(report: Report, list: &mut [u32]) -> Assigned
         return Assigned::Refused(Refusal::CountFull);
     }
     let n = list[at];
-    if n == MOST {
+    if n == tally::MOST {
         return Assigned::Refused(Refusal::CountFull);
     }
     list[at] = n + 1;
