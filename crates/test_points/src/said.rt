@@ -1,0 +1,104 @@
+// How answers and scores are printed.
+use crate::say::counted;
+use crate::say::text;
+use test_lives::Score;
+use test_lives::answer;
+use test_lives::answer::Answer;
+use test_lives::answer::Both;
+
+fn off(a: Answer) {
+    let turned = a.more;
+    if turned < answer::CLOCKWISE_EVEN {
+        counted(b"off ", a.number);
+    } else {
+        counted(b"off -", a.number);
+    }
+    if turned % 2 == answer::ODD {
+        text(b" odd");
+    } else {
+        text(b" even");
+    }
+}
+
+fn several(a: Answer) {
+    counted(b"several ", a.number);
+    counted(b" ", a.more);
+}
+
+fn told(a: Answer) {
+    let what = a.what;
+    match what {
+        answer::VERTEX => counted(b"vertex ", a.number),
+        answer::EDGE => counted(b"edge ", a.number),
+        answer::FOUNDED => text(b"ok"),
+        answer::SPLIT | answer::MERGED => counted(b"ok ", a.number),
+        answer::BORDER => counted(b"border ", a.number),
+        answer::ONE => counted(b"one ", a.number),
+        answer::NONE => text(b"none"),
+        answer::SEVERAL => several(a),
+        answer::REFUSED => counted(b"refused ", a.number),
+        _ => off(a),
+    }
+}
+
+// The library's answer, and that of the second implementation where they differ in anything.
+pub fn both(b: Both) {
+    told(b.library);
+    if !b.same() {
+        text(b" BUT the second says ");
+        told(b.second);
+    }
+    text(b"\n");
+}
+
+// How often one kind of answer came.
+fn count(kind: usize, n: usize) {
+    match kind {
+        answer::VERTEX => counted(b", vertex ", n),
+        answer::EDGE => counted(b", edge ", n),
+        answer::OFF => counted(b", off 0: ", n),
+        answer::OFF_ONCE => counted(b", off +-1: ", n),
+        answer::OFF_MORE => counted(b", off beyond: ", n),
+        answer::FOUNDED => counted(b", founded ", n),
+        answer::SPLIT => counted(b", splits ", n),
+        answer::MERGED => counted(b", merges ", n),
+        _ => class(kind, n),
+    }
+}
+
+fn class(kind: usize, n: usize) {
+    match kind {
+        answer::BORDER => counted(b", border ", n),
+        answer::ONE => counted(b", one ", n),
+        answer::NONE => counted(b", none ", n),
+        answer::SEVERAL => counted(b", several ", n),
+        _ => refused(kind, n),
+    }
+}
+
+fn refused(kind: usize, n: usize) {
+    if answer::REFUSED <= kind {
+        counted(b", refused ", kind - answer::REFUSED);
+        counted(b": ", n);
+    }
+}
+
+fn counts(s: Score) {
+    let counts = s.counts;
+    let mut kind = 0;
+    while kind < 32 {
+        let n = counts[kind];
+        if 0 < n {
+            count(kind, n);
+        }
+        kind += 1;
+    }
+}
+
+pub fn score(name: &[u8], s: Score) {
+    text(name);
+    counted(b": asked ", s.asked);
+    counts(s);
+    counted(b", differ ", s.differ);
+    text(b"\n");
+}
