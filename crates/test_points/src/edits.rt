@@ -11,93 +11,105 @@ ghost use Rattle.test_rows.specs.Shape.{allRows};
 
 const OUTLINE_NUMBERS: usize = 8;
 
-enum List {
-    // Document 01's listing.
-    Listing,
-    // A split along a path that leaves the square.
-    OverTheTop,
-    // Reports by position, near a rectangle from 62 to 188 mm: 0.0625 m and 0.1875 m are exactly half way between two millimetres.
-    Positions,
-}
+const CALLS: usize = 24;
 
-fn at(number: u32, x: i32, y: i32) -> Edit {
+// Document 01's listing; then a split along a path that leaves the square; then reports by position, near a rectangle from 62 to 188 mm:
+// 0.0625 m and 0.1875 m are exactly half way between two millimetres, and the first report comes before there is an outline.
+const CALLED: [Edit; 24] = [
+    Edit::Found,
+    Edit::Split { d: 0, i: 0, j: 2 },
     Edit::Report {
-        number,
-        sent: Sent::Point(x, y),
-    }
-}
-
-fn fixed(number: u32, easting: f64, northing: f64) -> Edit {
+        number: 700,
+        sent: Sent::Point(3, 1),
+    },
     Edit::Report {
-        number,
-        sent: Sent::Metres(easting, northing),
-    }
-}
+        number: 701,
+        sent: Sent::Point(2, 2),
+    },
+    Edit::Report {
+        number: 702,
+        sent: Sent::Point(9, 9),
+    },
+    Edit::Split { d: 1, i: 0, j: 1 },
+    Edit::Merge {
+        kept: 0,
+        a: 2,
+        gone: 1,
+        b: 0,
+        k: 1,
+    },
+    Edit::Report {
+        number: 703,
+        sent: Sent::Point(2, 2),
+    },
+    Edit::Found,
+    Edit::Split { d: 0, i: 0, j: 1 },
+    Edit::Report {
+        number: 0,
+        sent: Sent::Point(2, 6),
+    },
+    Edit::Report {
+        number: 1,
+        sent: Sent::Point(2, 2),
+    },
+    Edit::Report {
+        number: 800,
+        sent: Sent::Metres(0.1, 0.05),
+    },
+    Edit::Found,
+    Edit::Report {
+        number: 801,
+        sent: Sent::Point(100, 50),
+    },
+    Edit::Report {
+        number: 802,
+        sent: Sent::Metres(0.1, 0.05),
+    },
+    Edit::Report {
+        number: 803,
+        sent: Sent::Metres(0.0625, 0.05),
+    },
+    Edit::Report {
+        number: 804,
+        sent: Sent::Metres(0.1875, 0.05),
+    },
+    Edit::Report {
+        number: 805,
+        sent: Sent::Metres(0.0616, 0.05),
+    },
+    Edit::Report {
+        number: 806,
+        sent: Sent::Metres(0.0614, 0.05),
+    },
+    Edit::Report {
+        number: 807,
+        sent: Sent::Metres(0.1, -1000000.0005),
+    },
+    Edit::Report {
+        number: 808,
+        sent: Sent::Metres(0.1, -1000000.0005000001),
+    },
+    Edit::Report {
+        number: 809,
+        sent: Sent::Point(1_000_000_001, 50),
+    },
+    Edit::Report {
+        number: 810,
+        sent: Sent::Nothing,
+    },
+];
 
-fn listing(k: usize) -> Edit {
-    match k {
-        0 => Edit::Found,
-        1 => Edit::Split { d: 0, i: 0, j: 2 },
-        2 => at(700, 3, 1),
-        3 => at(701, 2, 2),
-        4 => at(702, 9, 9),
-        5 => Edit::Split { d: 1, i: 0, j: 1 },
-        6 => Edit::Merge {
-            kept: 0,
-            a: 2,
-            gone: 1,
-            b: 0,
-            k: 1,
-        },
-        _ => at(703, 2, 2),
-    }
-}
+const LISTING: usize = 0;
 
-fn over_the_top(k: usize) -> Edit {
-    match k {
-        0 => Edit::Found,
-        1 => Edit::Split { d: 0, i: 0, j: 1 },
-        2 => at(0, 2, 6),
-        _ => at(1, 2, 2),
-    }
-}
+const OVER_THE_TOP: usize = 8;
 
-// While there is no outline, a position is not looked at.
-fn positions(k: usize) -> Edit {
-    match k {
-        0 => fixed(800, 0.0 / 0.0, 0.002),
-        1 => Edit::Found,
-        2 => at(801, 100, 50),
-        3 => fixed(802, 0.1, 0.05),
-        4 => fixed(803, 0.0625, 0.05),
-        5 => fixed(804, 0.1875, 0.05),
-        6 => fixed(805, 0.0616, 0.05),
-        7 => fixed(806, 0.0614, 0.05),
-        _ => far_positions(k),
-    }
-}
+const POSITIONS: usize = 12;
 
-// All refused but the third, which is still on the grid.
-fn far_positions(k: usize) -> Edit {
-    match k {
-        8 => fixed(807, 0.0 / 0.0, 0.002),
-        9 => fixed(808, 1e300, -1.0 / 0.0),
-        10 => fixed(809, 0.1, -1000000.0005),
-        11 => fixed(810, 0.1, -1000000.0005000001),
-        12 => at(811, 1_000_000_001, 50),
-        _ => Edit::Report {
-            number: 812,
-            sent: Sent::Nothing,
-        },
+fn call(k: usize) -> Edit {
+    if k < CALLS {
+        return CALLED[k];
     }
-}
-
-fn call(list: List, k: usize) -> Edit {
-    match list {
-        List::Listing => listing(k),
-        List::OverTheTop => over_the_top(k),
-        List::Positions => positions(k),
-    }
+    Edit::Found
 }
 
 // Prints one call as document 01 does.
@@ -138,17 +150,17 @@ fn perform_all(
     runs: &mut [u32],
     rows: &mut [i32],
     name: &[u8],
-    list: List,
-    last: usize,
+    first: usize,
+    end: usize,
     points: &[i32],
 ) -> Score
     requires { ⌜ length (now runs) ≡ 129 ⌝ }
     requires { ⌜ length (now rows) ≡ allRows ⌝ }
 {
     let mut score = Score::new();
-    let mut k = 0;
-    while k < last {
-        let edit = call(list, k);
+    let mut k = first;
+    while k < end {
+        let edit = call(k);
         let own = points_of(edit, points);
         let both = test_lives::perform(outline, store, runs, rows, edit, own);
         print(name, edit, both);
@@ -158,8 +170,8 @@ fn perform_all(
     score
 }
 
-// So many calls of a list, for an outline of four vertices and the path behind them.
-fn listed(name: &[u8], list: List, last: usize, points: &[i32]) -> Score {
+// The calls from one up to another, for an outline of four vertices and the path behind them.
+fn listed(name: &[u8], first: usize, end: usize, points: &[i32]) -> Score {
     let mut outline = [0i32; districts::OUTLINE_LENGTH];
     let mut store = [0i32; districts::STORE_LENGTH];
     let mut runs = [0u32; districts::RUNS_LENGTH];
@@ -170,8 +182,8 @@ fn listed(name: &[u8], list: List, last: usize, points: &[i32]) -> Score {
         &mut runs,
         &mut rows,
         name,
-        list,
-        last,
+        first,
+        end,
         points,
     )
 }
@@ -180,7 +192,7 @@ pub fn all(start: Score) -> Score {
     let square = [0, 0, 4, 0, 4, 4, 0, 4];
     let with_path = [0, 0, 4, 0, 4, 4, 0, 4, 2, 9];
     let rectangle = [62, 0, 188, 0, 188, 100, 62, 100];
-    let one = start.plus(listed(b"listing: ", List::Listing, 8, &square));
-    let two = one.plus(listed(b"over the top: ", List::OverTheTop, 4, &with_path));
-    two.plus(listed(b"positions: ", List::Positions, 14, &rectangle))
+    let one = start.plus(listed(b"listing: ", LISTING, OVER_THE_TOP, &square));
+    let two = one.plus(listed(b"over the top: ", OVER_THE_TOP, POSITIONS, &with_path));
+    two.plus(listed(b"positions: ", POSITIONS, CALLS, &rectangle))
 }

@@ -5,7 +5,88 @@ use test_lives::Score;
 
 const FAR: i32 = 1_000_000_000;
 
-const KNOWN: usize = 20;
+// A picture by its name and corners, of which the first m numbers count.
+struct Picture {
+    name: [u8; 24],
+    corners: [i32; 16],
+    m: usize,
+}
+
+// The last two are the pieces of the square when it is split from 0 to 1 with path (2,9).
+const PICTURES: [Picture; 11] = [
+    Picture {
+        name: *b"square                  ",
+        corners: [0, 0, 4, 0, 4, 4, 0, 4, 0, 0, 0, 0, 0, 0, 0, 0],
+        m: 8,
+    },
+    Picture {
+        name: *b"square backwards        ",
+        corners: [0, 4, 4, 4, 4, 0, 0, 0, 0, 0, 0, 0, 0, 0, 0, 0],
+        m: 8,
+    },
+    Picture {
+        name: *b"square twice over       ",
+        corners: [0, 0, 4, 0, 4, 4, 0, 4, 0, 0, 4, 0, 4, 4, 0, 4],
+        m: 16,
+    },
+    Picture {
+        name: *b"bow tie                 ",
+        corners: [0, 0, 4, 4, 4, 0, 0, 4, 0, 0, 0, 0, 0, 0, 0, 0],
+        m: 8,
+    },
+    Picture {
+        name: *b"one point three times   ",
+        corners: [1, 1, 1, 1, 1, 1, 0, 0, 0, 0, 0, 0, 0, 0, 0, 0],
+        m: 6,
+    },
+    Picture {
+        name: *b"there and half way back ",
+        corners: [0, 0, 4, 0, 2, 0, 0, 0, 0, 0, 0, 0, 0, 0, 0, 0],
+        m: 6,
+    },
+    Picture {
+        name: *b"half the grid           ",
+        corners: [
+            -FAR,
+            -FAR,
+            FAR,
+            -FAR,
+            FAR,
+            FAR,
+            0,
+            0,
+            0,
+            0,
+            0,
+            0,
+            0,
+            0,
+            0,
+            0,
+        ],
+        m: 6,
+    },
+    Picture {
+        name: *b"coordinate 1000000001   ",
+        corners: [0, 0, 1_000_000_001, 0, 4, 4, 0, 0, 0, 0, 0, 0, 0, 0, 0, 0],
+        m: 6,
+    },
+    Picture {
+        name: *b"two vertices            ",
+        corners: [0, 0, 4, 0, 0, 0, 0, 0, 0, 0, 0, 0, 0, 0, 0, 0],
+        m: 4,
+    },
+    Picture {
+        name: *b"piece one over the top  ",
+        corners: [0, 0, 4, 0, 2, 9, 0, 0, 0, 0, 0, 0, 0, 0, 0, 0],
+        m: 6,
+    },
+    Picture {
+        name: *b"piece two over the top  ",
+        corners: [4, 0, 4, 4, 0, 4, 0, 0, 2, 9, 0, 0, 0, 0, 0, 0],
+        m: 10,
+    },
+];
 
 // A picture's number and a point.
 struct Known {
@@ -14,7 +95,7 @@ struct Known {
     y: i32,
 }
 
-const POINTS: [Known; 20] = [
+const POINTS: [Known; 19] = [
     Known {
         picture: 0,
         x: 2,
@@ -103,79 +184,64 @@ const POINTS: [Known; 20] = [
     Known {
         picture: 9,
         x: 2,
-        y: 2,
+        y: 6,
     },
     Known {
         picture: 10,
         x: 2,
         y: 6,
     },
-    Known {
-        picture: 11,
-        x: 2,
-        y: 6,
-    },
 ];
 
-pub fn all() -> Score {
-    let mut score = Score::new();
-    let mut k = 0;
-    while k < KNOWN {
-        let p = POINTS[k];
-        score = picture(p.picture, p.x, p.y, score);
-        k += 1;
+// Asks about the first m numbers of a list as a ring.
+fn ask(list: &[i32], m: usize, p: Known, score: Score) -> Score {
+    if list.len() < m {
+        return score;
     }
-    score
-}
-
-fn ask(name: &[u8], list: &[i32], x: i32, y: i32, score: Score) -> Score {
-    let both = test_lives::located(list, x, y);
-    say::text(name);
-    say::signed(b" (", x);
-    say::signed(b",", y);
+    let both = test_lives::located(&list[0..m], p.x, p.y);
+    say::signed(b" (", p.x);
+    say::signed(b",", p.y);
     say::text(b"): ");
     said::both(both);
     score.with(both)
 }
 
-// The last two are the pieces of the square when it is split from 0 to 1 with path (2,9).
-fn picture(which: usize, x: i32, y: i32, s: Score) -> Score {
-    match which {
-        0 => ask(b"square", &[0, 0, 4, 0, 4, 4, 0, 4], x, y, s),
-        1 => ask(b"square backwards", &[0, 4, 4, 4, 4, 0, 0, 0], x, y, s),
-        2 => ask(
-            b"square twice over",
-            &[0, 0, 4, 0, 4, 4, 0, 4, 0, 0, 4, 0, 4, 4, 0, 4],
-            x,
-            y,
-            s,
-        ),
-        3 => ask(b"bow tie", &[0, 0, 4, 4, 4, 0, 0, 4], x, y, s),
-        4 => ask(b"one point three times", &[1, 1, 1, 1, 1, 1], x, y, s),
-        5 => ask(b"there and half way back", &[0, 0, 4, 0, 2, 0], x, y, s),
-        6 => ask(
-            b"half the grid",
-            &[-FAR, -FAR, FAR, -FAR, FAR, FAR],
-            x,
-            y,
-            s,
-        ),
-        7 => ask(
-            b"coordinate 1000000001",
-            &[0, 0, 1_000_000_001, 0, 4, 4],
-            x,
-            y,
-            s,
-        ),
-        8 => ask(b"two vertices", &[0, 0, 4, 0], x, y, s),
-        9 => ask(b"2049 vertices", &[0; 4098], x, y, s),
-        10 => ask(b"piece one over the top", &[0, 0, 4, 0, 2, 9], x, y, s),
-        _ => ask(
-            b"piece two over the top",
-            &[4, 0, 4, 4, 0, 4, 0, 0, 2, 9],
-            x,
-            y,
-            s,
-        ),
+fn named(name: &[u8; 24], corners: &[i32; 16], m: usize, p: Known, score: Score) -> Score {
+    say::text(name);
+    ask(corners, m, p, score)
+}
+
+fn pictured(p: Known, score: Score) -> Score {
+    let which = p.picture;
+    if 11 <= which {
+        return score;
     }
+    let picture = PICTURES[which];
+    let name = picture.name;
+    let corners = picture.corners;
+    named(&name, &corners, picture.m, p, score)
+}
+
+pub fn all() -> Score {
+    let mut score = Score::new();
+    let mut k = 0;
+    while k < 19 {
+        score = pictured(POINTS[k], score);
+        k += 1;
+    }
+    score
+}
+
+// The longest ring, and one vertex more.
+pub fn longest(score: Score) -> Score {
+    let p = Known {
+        picture: 0,
+        x: 2,
+        y: 2,
+    };
+    let list = [0i32; 4098];
+    say::text(b"2048 vertices           ");
+    let one = ask(&list, 4096, p, score);
+    say::text(b"2049 vertices           ");
+    ask(&list, 4098, p, one)
 }

@@ -16,38 +16,153 @@ ghost use Rattle.test_cases.specs.Room.{room};
 
 const SEED: usize = 20_011_120;
 
+// Rings of one kind, and how many.
+struct Rings {
+    name: [u8; 30],
+    what: Kind,
+    times: usize,
+}
+
+const RINGS: [Rings; 6] = [
+    Rings {
+        name: *b"small grids                   ",
+        what: Kind::SmallGrid,
+        times: 200_000,
+    },
+    Rings {
+        name: *b"doubled rings                 ",
+        what: Kind::Doubled,
+        times: 100_000,
+    },
+    Rings {
+        name: *b"spiked rings                  ",
+        what: Kind::Spiked,
+        times: 100_000,
+    },
+    Rings {
+        name: *b"rings at the grid's limits    ",
+        what: Kind::Limits,
+        times: 200_000,
+    },
+    Rings {
+        name: *b"long rings                    ",
+        what: Kind::Long,
+        times: 1_000,
+    },
+    Rings {
+        name: *b"lists to be refused           ",
+        what: Kind::Broken,
+        times: 100_000,
+    },
+];
+
+// Registers that live so, and how many.
+struct Lives {
+    name: [u8; 30],
+    life: Life,
+    times: usize,
+}
+
+// The last two live so long that all numbers are in use, or have paths so long that the store is full.
+const LIVES: [Lives; 7] = [
+    Lives {
+        name: *b"registers of small grids      ",
+        life: Life {
+            what: Kind::SmallGrid,
+            long: false,
+            times: 60,
+        },
+        times: 600,
+    },
+    Lives {
+        name: *b"registers of doubled rings    ",
+        life: Life {
+            what: Kind::Doubled,
+            long: false,
+            times: 60,
+        },
+        times: 200,
+    },
+    Lives {
+        name: *b"registers of spiked rings     ",
+        life: Life {
+            what: Kind::Spiked,
+            long: false,
+            times: 60,
+        },
+        times: 200,
+    },
+    Lives {
+        name: *b"registers at the grid's limits",
+        life: Life {
+            what: Kind::Limits,
+            long: false,
+            times: 60,
+        },
+        times: 600,
+    },
+    Lives {
+        name: *b"registers to be refused       ",
+        life: Life {
+            what: Kind::Broken,
+            long: false,
+            times: 60,
+        },
+        times: 200,
+    },
+    Lives {
+        name: *b"registers up to 64 districts  ",
+        life: Life {
+            what: Kind::SmallGrid,
+            long: false,
+            times: 600,
+        },
+        times: 12,
+    },
+    Lives {
+        name: *b"registers up to a full store  ",
+        life: Life {
+            what: Kind::Long,
+            long: true,
+            times: 150,
+        },
+        times: 20,
+    },
+];
+
 fn main() {
     let mut seed = SEED;
-    let points = rings(known::all(), &mut seed);
-    let listed = edits::all(points);
-    let all = full(registers(listed, &mut seed), &mut seed);
+    let points = known::longest(known::all());
+    let made = made_rings(points, &mut seed);
+    let all = made_lives(edits::all(made), &mut seed);
     say::counted(b"asked ", all.asked);
     say::counted(b" differ ", all.differ);
     say::counted(b" digest ", all.digest);
     say::text(b"\n");
 }
 
-fn rings(start: Score, seed: &mut usize) -> Score {
-    let mut all = kind(b"small grids", Kind::SmallGrid, 200_000, start, seed);
-    all = kind(b"doubled rings", Kind::Doubled, 100_000, all, seed);
-    all = kind(b"spiked rings", Kind::Spiked, 100_000, all, seed);
-    all = kind(
-        b"rings at the grid's limits",
-        Kind::Limits,
-        200_000,
-        all,
-        seed,
-    );
-    all = kind(b"long rings", Kind::Long, 500, all, seed);
-    kind(b"lists to be refused", Kind::Broken, 100_000, all, seed)
-}
-
-// Asks about so many rings of one kind, prints what came of them, and adds that to all.
-fn kind(name: &[u8], what: Kind, times: usize, all: Score, seed: &mut usize) -> Score {
-    let mut space = [0i32; test_cases::ROOM];
-    let score = many(what, times, &mut space, seed);
+// Prints what came of something, and adds that to all.
+fn added(name: &[u8; 30], score: Score, all: Score) -> Score {
     said::score(name, score);
     all.plus(score)
+}
+
+fn made_rings(start: Score, seed: &mut usize) -> Score {
+    let mut all = start;
+    let mut k = 0;
+    while k < 6 {
+        all = kind(RINGS[k], all, seed);
+        k += 1;
+    }
+    all
+}
+
+// Asks about the rings of one kind.
+fn kind(rings: Rings, all: Score, seed: &mut usize) -> Score {
+    let mut space = [0i32; test_cases::ROOM];
+    let name = rings.name;
+    let what = rings.what;
+    added(&name, many(what, rings.times, &mut space, seed), all)
 }
 
 fn many(what: Kind, times: usize, list: &mut [i32], seed: &mut usize) -> Score
@@ -70,53 +185,18 @@ fn one(what: Kind, list: &mut [i32], seed: &mut usize, score: Score) -> Score
     score.with(test_lives::located(&list[0..m], case.x, case.y))
 }
 
-fn registers(start: Score, seed: &mut usize) -> Score {
-    let mut all = lives(
-        b"registers of small grids",
-        Kind::SmallGrid,
-        300,
-        start,
-        seed,
-    );
-    all = lives(b"registers of doubled rings", Kind::Doubled, 100, all, seed);
-    all = lives(b"registers of spiked rings", Kind::Spiked, 100, all, seed);
-    all = lives(
-        b"registers at the grid's limits",
-        Kind::Limits,
-        300,
-        all,
-        seed,
-    );
-    lives(b"registers to be refused", Kind::Broken, 100, all, seed)
+fn made_lives(start: Score, seed: &mut usize) -> Score {
+    let mut all = start;
+    let mut k = 0;
+    while k < 7 {
+        all = lived(LIVES[k], all, seed);
+        k += 1;
+    }
+    all
 }
 
-fn lives(name: &[u8], what: Kind, lives: usize, all: Score, seed: &mut usize) -> Score {
-    let life = Life {
-        what,
-        long: false,
-        times: 60,
-    };
-    lived(name, life, lives, all, seed)
-}
-
-// Registers that live so long that all numbers are in use, or with paths so long that the store is full.
-fn full(start: Score, seed: &mut usize) -> Score {
-    let numbers = Life {
-        what: Kind::SmallGrid,
-        long: false,
-        times: 600,
-    };
-    let vertices = Life {
-        what: Kind::Long,
-        long: true,
-        times: 150,
-    };
-    let all = lived(b"registers up to 64 districts", numbers, 6, start, seed);
-    lived(b"registers up to a full store", vertices, 10, all, seed)
-}
-
-fn lived(name: &[u8], life: Life, lives: usize, all: Score, seed: &mut usize) -> Score {
-    let score = test_lives::all(life, lives, seed);
-    said::score(name, score);
-    all.plus(score)
+fn lived(lives: Lives, all: Score, seed: &mut usize) -> Score {
+    let name = lives.name;
+    let life = lives.life;
+    added(&name, test_lives::all(life, lives.times, seed), all)
 }

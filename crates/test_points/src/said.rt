@@ -1,4 +1,5 @@
 // How answers and scores are printed.
+use crate::say;
 use crate::say::counted;
 use crate::say::text;
 use test_lives::Score;
@@ -51,33 +52,36 @@ pub fn both(b: Both) {
     text(b"\n");
 }
 
+// What answers are called when they are counted, up to refusals, and how long each name is.
+const NAMES: [[u8; 14]; 12] = [
+    *b", vertex      ",
+    *b", edge        ",
+    *b", off 0:      ",
+    *b", off +-1:    ",
+    *b", off beyond: ",
+    *b", founded     ",
+    *b", splits      ",
+    *b", merges      ",
+    *b", border      ",
+    *b", one         ",
+    *b", none        ",
+    *b", several     ",
+];
+
+const LENGTHS: [usize; 12] = [9, 7, 9, 11, 14, 10, 9, 9, 9, 6, 7, 10];
+
+fn named(name: &[u8; 14], m: usize, n: usize) {
+    say::first(name, m);
+    counted(b"", n);
+}
+
 // How often one kind of answer came.
 fn count(kind: usize, n: usize) {
-    match kind {
-        answer::VERTEX => counted(b", vertex ", n),
-        answer::EDGE => counted(b", edge ", n),
-        answer::OFF => counted(b", off 0: ", n),
-        answer::OFF_ONCE => counted(b", off +-1: ", n),
-        answer::OFF_MORE => counted(b", off beyond: ", n),
-        answer::FOUNDED => counted(b", founded ", n),
-        answer::SPLIT => counted(b", splits ", n),
-        answer::MERGED => counted(b", merges ", n),
-        _ => class(kind, n),
-    }
-}
-
-fn class(kind: usize, n: usize) {
-    match kind {
-        answer::BORDER => counted(b", border ", n),
-        answer::ONE => counted(b", one ", n),
-        answer::NONE => counted(b", none ", n),
-        answer::SEVERAL => counted(b", several ", n),
-        _ => refused(kind, n),
-    }
-}
-
-fn refused(kind: usize, n: usize) {
-    if answer::REFUSED <= kind {
+    if kind < answer::REFUSED {
+        let m = LENGTHS[kind];
+        let name = NAMES[kind];
+        named(&name, m, n);
+    } else {
         counted(b", refused ", kind - answer::REFUSED);
         counted(b": ", n);
     }
@@ -97,7 +101,7 @@ fn counts(s: Score) {
 
 pub fn score(name: &[u8], s: Score) {
     text(name);
-    counted(b": asked ", s.asked);
+    counted(b" asked ", s.asked);
     counts(s);
     counted(b", differ ", s.differ);
     text(b"\n");

@@ -5,6 +5,13 @@ pub fn text(t: &[u8]) {
     io::write_all(STDOUT_FILENO, t);
 }
 
+// The first m bytes.
+pub fn first(t: &[u8], m: usize) {
+    if m <= t.len() {
+        text(&t[0..m]);
+    }
+}
+
 pub fn counted(before: &[u8], n: usize) {
     text(before);
     io::print_decimal(STDOUT_FILENO, n as u64);

@@ -8,10 +8,10 @@ use Rattle.test_points.proofs.edits.perform_all.Statement.{statement}
 use Rattle.test_points.proofs.edits.perform_all.Tie as tie
 
 abbrev Inv-loop : tie.InvT-loop
-Inv-loop outline₀ store₀ runs₀ rows₀ name list last points score₀ k₀ outline store runs rows score k = (length outline ≡ length outline₀) × (length store ≡ length store₀) × (length runs ≡ 129) × (length rows ≡ allRows)
+Inv-loop outline₀ store₀ runs₀ rows₀ name first end points score₀ k₀ outline store runs rows score k = (length outline ≡ length outline₀) × (length store ≡ length store₀) × (length runs ≡ 129) × (length rows ≡ allRows)
 
 abbrev μ-loop : tie.MeasureT-loop
-μ-loop outline₀ store₀ runs₀ rows₀ name list last points score₀ k₀ outline store runs rows score k = last - k
+μ-loop outline₀ store₀ runs₀ rows₀ name first end points score₀ k₀ outline store runs rows score k = end - k
 
 new-requires : tie.Need-new-requires Inv-loop μ-loop
 new-requires c κs = search needs

@@ -8,7 +8,7 @@ abbrev Inv-loop : tie.InvT-loop
 Inv-loop score₀ k₀ score k = 0 ≤ k
 
 abbrev μ-loop : tie.MeasureT-loop
-μ-loop score₀ k₀ score k = 20 - k
+μ-loop score₀ k₀ score k = 19 - k
 
 new-requires : tie.Need-new-requires Inv-loop μ-loop
 new-requires c κs = search needs
@@ -16,14 +16,14 @@ new-requires c κs = search needs
 loop-holds : tie.Need-loop-holds Inv-loop μ-loop
 loop-holds c = search needs
 
-mul-p : tie.Need-mul-p Inv-loop μ-loop
-mul-p c = search needs
+mul-pictured : tie.Need-mul-pictured Inv-loop μ-loop
+mul-pictured c = search needs
 
-array-copy-out-p : tie.Need-array-copy-out-p Inv-loop μ-loop
-array-copy-out-p c = search needs
+array-copy-out-pictured : tie.Need-array-copy-out-pictured Inv-loop μ-loop
+array-copy-out-pictured c = search needs
 
-picture-requires : tie.Need-picture-requires Inv-loop μ-loop
-picture-requires c κs = search needs
+pictured-requires : tie.Need-pictured-requires Inv-loop μ-loop
+pictured-requires c κs = search needs
 
 add-k : tie.Need-add-k Inv-loop μ-loop
 add-k c = search needs
@@ -45,9 +45,9 @@ all-spec =
     μ-loop
     new-requires
     loop-holds
-    mul-p
-    array-copy-out-p
-    picture-requires
+    mul-pictured
+    array-copy-out-pictured
+    pictured-requires
     add-k
     loop-less
     loop-again
