@@ -1,6 +1,5 @@
 // A common run of two districts, looked for in the rows, so that merges are accepted.
 use crate::chance::draw;
-use crate::chance::seldom;
 use crate::choosing;
 use crate::choosing::Edit;
 use test_rows::least;
@@ -10,6 +9,9 @@ ghost use mathlib.Core.Path.{_≡_};
 ghost use Prim.Native.Nat.{_≤_};
 ghost use lib.ListN.{length};
 ghost use Rattle.test_rows.specs.Shape.{allRows, mostVertices};
+
+// One of so many merges is with any district.
+const WILD: usize = 4;
 
 struct Found {
     number: usize,
@@ -100,7 +102,7 @@ pub fn merge(rows: &[i32], seed: &mut usize) -> Edit
 {
     let kept = choosing::district(rows, seed);
     let a = choosing::index(test_rows::size(rows, kept), seed);
-    if seldom(seed) {
+    if draw(seed, WILD) == 0 {
         return wild(rows, kept, a, seed);
     }
     let at = neighbour(rows, kept, a, draw(seed, test_rows::NUMBERS));

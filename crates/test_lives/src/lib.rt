@@ -11,4 +11,5 @@ pub use asking::located;
 pub use asking::perform;
 pub use lives::Life;
 pub use lives::all;
+pub use score::KINDS;
 pub use score::Score;

@@ -3,6 +3,9 @@ use crate::answer::Both;
 use crate::answer::REFUSED;
 use test_cases::chance::mixed;
 
+// Every kind of answer, and every refusal by its number.
+pub const KINDS: usize = 32;
+
 pub struct Score {
     pub asked: usize,
     // How often the answers, or what the registers hold, differ.
@@ -10,7 +13,7 @@ pub struct Score {
     // Of all answers in their order.
     pub digest: usize,
     // By what was answered, from REFUSED on by the refusal's number.
-    pub counts: [usize; 32],
+    pub counts: [usize; KINDS],
 }
 
 fn sum(a: usize, b: usize) -> usize {
@@ -23,7 +26,7 @@ impl Score {
             asked: 0,
             differ: 0,
             digest: 0,
-            counts: [0; 32],
+            counts: [0; KINDS],
         }
     }
 
@@ -39,7 +42,7 @@ impl Score {
         } else {
             a.what
         };
-        if kind < 32 {
+        if kind < KINDS {
             s.counts[kind] = sum(s.counts[kind], 1);
         }
         s.asked = sum(s.asked, 1);

@@ -15,7 +15,7 @@ const CALLS: usize = 24;
 
 // Document 01's listing; then a split along a path that leaves the square; then reports by position, near a rectangle from 62 to 188 mm:
 // 0.0625 m and 0.1875 m are exactly half way between two millimetres, and the first report comes before there is an outline.
-const CALLED: [Edit; 24] = [
+const CALLED: [Edit; CALLS] = [
     Edit::Found,
     Edit::Split { d: 0, i: 0, j: 2 },
     Edit::Report {

@@ -12,8 +12,10 @@ struct Picture {
     m: usize,
 }
 
+const PICTURED: usize = 11;
+
 // The last two are the pieces of the square when it is split from 0 to 1 with path (2,9).
-const PICTURES: [Picture; 11] = [
+const PICTURES: [Picture; PICTURED] = [
     Picture {
         name: *b"square                  ",
         corners: [0, 0, 4, 0, 4, 4, 0, 4, 0, 0, 0, 0, 0, 0, 0, 0],
@@ -95,7 +97,9 @@ struct Known {
     y: i32,
 }
 
-const POINTS: [Known; 19] = [
+const KNOWN: usize = 19;
+
+const POINTS: [Known; KNOWN] = [
     Known {
         picture: 0,
         x: 2,
@@ -213,7 +217,7 @@ fn named(name: &[u8; 24], corners: &[i32; 16], m: usize, p: Known, score: Score)
 
 fn pictured(p: Known, score: Score) -> Score {
     let which = p.picture;
-    if 11 <= which {
+    if PICTURED <= which {
         return score;
     }
     let picture = PICTURES[which];
@@ -225,7 +229,7 @@ fn pictured(p: Known, score: Score) -> Score {
 pub fn all() -> Score {
     let mut score = Score::new();
     let mut k = 0;
-    while k < 19 {
+    while k < KNOWN {
         score = pictured(POINTS[k], score);
         k += 1;
     }

@@ -23,7 +23,9 @@ struct Rings {
     times: usize,
 }
 
-const RINGS: [Rings; 6] = [
+const KINDS: usize = 6;
+
+const RINGS: [Rings; KINDS] = [
     Rings {
         name: *b"small grids                   ",
         what: Kind::SmallGrid,
@@ -63,8 +65,10 @@ struct Lives {
     times: usize,
 }
 
+const SORTS: usize = 7;
+
 // The last two live so long that all numbers are in use, or have paths so long that the store is full.
-const LIVES: [Lives; 7] = [
+const LIVES: [Lives; SORTS] = [
     Lives {
         name: *b"registers of small grids      ",
         life: Life {
@@ -150,7 +154,7 @@ fn added(name: &[u8; 30], score: Score, all: Score) -> Score {
 fn made_rings(start: Score, seed: &mut usize) -> Score {
     let mut all = start;
     let mut k = 0;
-    while k < 6 {
+    while k < KINDS {
         all = kind(RINGS[k], all, seed);
         k += 1;
     }
@@ -188,7 +192,7 @@ fn one(what: Kind, list: &mut [i32], seed: &mut usize, score: Score) -> Score
 fn made_lives(start: Score, seed: &mut usize) -> Score {
     let mut all = start;
     let mut k = 0;
-    while k < 7 {
+    while k < SORTS {
         all = lived(LIVES[k], all, seed);
         k += 1;
     }

@@ -2,6 +2,7 @@
 use crate::say;
 use crate::say::counted;
 use crate::say::text;
+use test_lives::KINDS;
 use test_lives::Score;
 use test_lives::answer;
 use test_lives::answer::Answer;
@@ -53,7 +54,7 @@ pub fn both(b: Both) {
 }
 
 // What answers are called when they are counted, up to refusals, and how long each name is.
-const NAMES: [[u8; 14]; 12] = [
+const NAMES: [[u8; 14]; answer::REFUSED] = [
     *b", vertex      ",
     *b", edge        ",
     *b", off 0:      ",
@@ -68,7 +69,7 @@ const NAMES: [[u8; 14]; 12] = [
     *b", several     ",
 ];
 
-const LENGTHS: [usize; 12] = [9, 7, 9, 11, 14, 10, 9, 9, 9, 6, 7, 10];
+const LENGTHS: [usize; answer::REFUSED] = [9, 7, 9, 11, 14, 10, 9, 9, 9, 6, 7, 10];
 
 fn named(name: &[u8; 14], m: usize, n: usize) {
     say::first(name, m);
@@ -90,7 +91,7 @@ fn count(kind: usize, n: usize) {
 fn counts(s: Score) {
     let counts = s.counts;
     let mut kind = 0;
-    while kind < 32 {
+    while kind < KINDS {
         let n = counts[kind];
         if 0 < n {
             count(kind, n);

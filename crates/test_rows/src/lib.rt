@@ -9,8 +9,6 @@ mod splitting;
 pub use merging::merge;
 pub use merging::same;
 pub use reporting::report_sent;
-pub use row::around;
-pub use row::before;
 pub use row::empty;
 pub use row::least;
 pub use row::number_at;

@@ -1,6 +1,5 @@
 -- `lives::step` meets its contract: every list is as long after the change as before it. Assumes nothing.
 use borrow.Author.Needs.{needs}
-use borrow.Author.Needs.{needs}
 use Rattle.test_lives.proofs.lives.step.Statement.{statement}
 use Rattle.test_lives.proofs.lives.step.Tie as tie
 

@@ -6,12 +6,6 @@ use lib.ListN.{length}
 use Prim.Native.Nat.{_-_}
 use borrow.Author.Needs.{needs}
 -- `lives::steps` meets its contract. The invariant: the lists keep their lengths. The measure is how many are left. Assumes nothing.
-use Rattle.test_rows.specs.Shape.{allRows}
-use Rattle.test_cases.specs.Room.{room}
-use mathlib.Core.Path.{_≡_}
-use lib.ListN.{length}
-use Prim.Native.Nat.{_-_}
-use borrow.Author.Needs.{needs}
 use Rattle.test_lives.proofs.lives.steps.Statement.{statement}
 use Rattle.test_lives.proofs.lives.steps.Tie as tie
 
