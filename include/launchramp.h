@@ -15,7 +15,7 @@
  *
  * An answer is its kind, which is returned, and two values, written to `values`; a value that is not named here is 0:
  *
- *   LAUNCHRAMP_REFUSED   the refusal's number in document 01; 18 and 19 are document 02's
+ *   LAUNCHRAMP_REFUSED   the refusal's number (docs/RULES.md)
  *   LAUNCHRAMP_DONE      the number of the district that was made (split), kept (merge) or founded (0); of a fix's millimetres 0
  *   LAUNCHRAMP_VERTEX    the index of the lowest vertex that is the point
  *   LAUNCHRAMP_EDGE      the index of the lowest edge that holds the point

@@ -1,5 +1,5 @@
 //! Links liblaunchramp.a, from the folder whose whole path LAUNCHRAMP_LIB_DIR holds, otherwise from
-//! ../target/staticlib, where `rt staticlib launchramp` writes it. Where it can't be linked this says
+//! ../target/staticlib, where `tools/archive` writes it. Where it can't be linked this says
 //! so and the crate still compiles: `cargo check` works everywhere.
 use std::env;
 use std::path::{Path, PathBuf};

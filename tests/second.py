@@ -1,4 +1,4 @@
-"""A second grouping program, straight from document 01, to compare the first one with.
+"""A second grouping program, straight from the rules, to compare the first one with.
 
     python3 tests/second.py < STREAM
 
@@ -83,7 +83,7 @@ class Fix(NamedTuple):
 
 
 class Refused(Exception):
-    """A refusal, with its number in document 01."""
+    """A refusal, with its number in the rules."""
 
     @property
     def number(self):
@@ -100,7 +100,7 @@ def beyond_grid(points):
 
 
 class Register:
-    """An outline or none, and the rings of the district numbers in use. Each refusal stands where document 01 has it in its order."""
+    """An outline or none, and the rings of the district numbers in use. Each refusal stands where the rules has it in its order."""
 
     def __init__(self):
         self.outline = None

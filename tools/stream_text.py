@@ -1,4 +1,4 @@
-"""The record stream of document 01 as readable lines, and back: what bin/pack and bin/unpack do.
+"""The record stream of the rules as readable lines, and back: what bin/pack and bin/unpack do.
 
 HELP below is the language. For every byte string x, pack(unpack(x)) is x: what can't be a record is given as `bytes` lines.
 """

@@ -1,5 +1,5 @@
 //! Sorting fault reports into districts, exactly: a safe wrapper of the proved library
-//! liblaunchramp.a, whose rules are those of document 01.
+//! liblaunchramp.a, whose rules are those of the rules.
 //!
 //! Coordinates are whole millimetres, -1,000,000,000 to 1,000,000,000. Rings and paths are lists
 //! x, y, x, y, .. A report's position may also be a receiver's fix, in metres. Every call takes every

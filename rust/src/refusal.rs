@@ -2,8 +2,7 @@
 use std::error::Error;
 use std::fmt;
 
-/// Document 01's refusals, but for 13, a broken record: there are no records here; and document 02's
-/// of positions.
+/// The refusals by their numbers, but for 13, a broken record: there are no records here.
 #[derive(Clone, Copy, Debug, PartialEq, Eq, Hash)]
 #[non_exhaustive]
 pub enum Refusal {

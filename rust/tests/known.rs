@@ -1,5 +1,4 @@
-//! Document 01's known points, its listing, every refusal, and the tally at its limit; document 02's
-//! known fixes.
+//! The known points, the README's listing, every refusal, the tally at its limit, and known fixes.
 use launchramp::{locate, millimetres, Class, Place, Position, Refusal, Register, Tally};
 use launchramp::{COUNTS, NUMBERS, OUTLINE_LENGTH, RUNS_LENGTH, STORE_LENGTH};
 

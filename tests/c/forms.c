@@ -33,7 +33,7 @@ static bool some_beyond(const int32_t *list, size_t length)
     return found;
 }
 
-/* Document 01's number of the refusal, or 0. */
+/* The rules' number of the refusal, or 0. */
 static uint64_t refusal(const int32_t *ring, size_t ring_length, int32_t x, int32_t y)
 {
     size_t n = ring_length / 2;

@@ -6,7 +6,7 @@
 #include "launchramp.h"
 
 /* Algorithm 7 of source document 001, the efficient boundary algorithm: an edge that does not cross the point's horizontal line costs a few
- * comparisons, and no quadrant is named. One thing is not as in the paper: a point on an edge does not end the walk, since document 01 puts a
+ * comparisons, and no quadrant is named. One thing is not as in the paper: a point on an edge does not end the walk, since the rules puts a
  * later vertex before it. From there on only vertices are looked for. */
 uint32_t paper_locate(const int32_t *ring, size_t ring_length, int32_t x, int32_t y, uint64_t *values);
 

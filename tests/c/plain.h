@@ -1,4 +1,4 @@
-/* Document 01 again in plain C, to compare the library with; it shares no code with it. Winding numbers are counted by the crossing rule,
+/* The rules again in plain C, to compare the library with; it shares no code with it. Winding numbers are counted by the crossing rule,
  * determinants have 128 bits, and every district has a row of its own, so nothing is ever packed. Answers are told as launchramp.h tells
  * them. Refusal 1 is not given here: a plain register has no way to be damaged. Whether lists are well-formed is asked apart. */
 #ifndef PLAIN_H

@@ -1,4 +1,4 @@
--- What the acceptance of a split tells, and that what was performed is document 01's split. Assumes nothing.
+-- What the acceptance of a split tells, and that what was performed is the rules' split. Assumes nothing.
 use Prim.Native.Nat.{ℕ, suc, _+_, _/_, _%_, _≤_, _<_}
 use native.Mathlib.Omega.{arith}
 use mathlib.Core.Path.{_≡_, refl, sym, ap, subst, _∙_}

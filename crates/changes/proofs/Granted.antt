@@ -1,4 +1,4 @@
--- What the acceptance of a merge tells, and that what was performed is document 01's merge. Assumes nothing.
+-- What the acceptance of a merge tells, and that what was performed is the rules' merge. Assumes nothing.
 use Prim.Native.Nat.{ℕ, _+_, _-_, _≤_, _<_}
 use native.Mathlib.Omega.{arith}
 use mathlib.Core.Path.{_≡_, sym, ap, subst, _∙_}

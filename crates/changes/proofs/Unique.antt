@@ -16,7 +16,7 @@ use Rattle.refusals.specs.Numbers.{numberOf}
 use Rattle.changes.specs.Answers.{Answer, done, refused, answerOf, answers}
 use Rattle.changes.specs.Calls.{ChangedBy, SplitBy, MergeBy}
 
--- document 01's numbers read back
+-- the rules' numbers read back
 abbrev codeOf : Answer → Changed
 codeOf (done d) = Done d
 codeOf (refused n) = Refused (refusalOf n)

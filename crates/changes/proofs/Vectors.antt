@@ -1,4 +1,4 @@
--- Document 01's known split and its listing of edits, worked out from the definitions. Assumes nothing.
+-- The rules' known split and its listing of edits, worked out from the definitions. Assumes nothing.
 use mathlib.Core.Path.{_≡_, refl}
 use mathlib.Core.Bool.{true}
 use mathlib.Core.List.{List, [], _∷_}

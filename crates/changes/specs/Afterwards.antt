@@ -1,4 +1,4 @@
--- Document 01, "The register": the register after a split and after a merge.
+-- docs/RULES.md, "The register": the register after a split and after a merge.
 -- Assumes nothing.
 use Prim.Native.Nat.{ℕ}
 use mathlib.Core.List.{List}

@@ -12,7 +12,7 @@ use Rattle.districts.specs.Lent.{Lists, formed, means, Leaves}
 use Rattle.refusals.specs.Verdicts.{Verdict, accept, refuse}
 use Rattle.refusals.proofs.Numbers.{refusalOf, refusal-back}
 
--- document 01's values read back
+-- the rules' values read back
 abbrev pub classOf : Belongs → Class
 classOf (border d) = Border d
 classOf (one d) = One d

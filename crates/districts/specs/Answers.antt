@@ -1,4 +1,4 @@
--- The documents' answers to a report, with the numbers of the refusals, and how the code's enums say them. Assumes nothing.
+-- The rules' answers to a report, with the numbers of the refusals, and how the code's enums say them. Assumes nothing.
 use Prim.Native.Nat.{ℕ}
 use Rattle.refusals.specs.Numbers.{numberOf}
 use Rattle.districts.specs.declared.Class.{Class}

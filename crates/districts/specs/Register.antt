@@ -1,4 +1,4 @@
--- Document 01, "The register": what a register means, apart from how it is held. Assumes nothing.
+-- docs/RULES.md, "The register": what a register means, apart from how it is held. Assumes nothing.
 use Prim.Native.Nat.{ℕ}
 use mathlib.Core.Bool.{Bool, true, false}
 use mathlib.Core.List.{List, []}

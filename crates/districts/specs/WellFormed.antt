@@ -1,4 +1,4 @@
--- Document 01's well-formed register, asked of the three lists. What stands in the free room is not asked. Assumes nothing.
+-- The rules' well-formed register, asked of the three lists. What stands in the free room is not asked. Assumes nothing.
 use Prim.Native.Nat.{ℕ, _+_}
 use mathlib.Core.Bool.{Bool, not, _&&_, _||_}
 use mathlib.Core.List.{List}

@@ -18,7 +18,7 @@ pub record Code : Type 0 where
 abbrev pub code : ℕ → ℕ → ℕ → Code
 code k a b = record { kind = k; values = a ∷ b ∷ [] }
 
--- a refusal, by document 01's number
+-- a refusal, by the rules' number
 abbrev pub refusedCode : ℕ → Code
 refusedCode n = code 0 n 0
 

@@ -1,4 +1,4 @@
--- Document 02, E10: of every finite double there is one nearest millimetre, and the conversion gives it; and what each of its answers
+-- Of every finite double there is one nearest millimetre, and the conversion gives it; and what each of its answers
 -- tells of the two doubles. Assumes nothing.
 use Prim.Native.Nat.{ℕ, _+_, _*_, _%_, _≤_, _<_}
 use native.Mathlib.Omega.{arith}

@@ -1,4 +1,4 @@
--- Document 02, E10: which whole number of millimetres is nearest to a double of metres, halves to even. It is asked of whole numbers only:
+-- docs/RULES.md, "The register", positions: which whole number of millimetres is nearest to a double of metres, halves to even. It is asked of whole numbers only:
 -- a double is a sign, a whole number m and a power of two, 2 ^ e = up e / down e. Assumes nothing.
 use Prim.Native.Nat.{ℕ, _*_, _≤_, _%_}
 use mathlib.Core.Path.{_≡_}

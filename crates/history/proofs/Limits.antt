@@ -1,4 +1,4 @@
--- Every register that calls make is within document 01's limits. Assumes nothing.
+-- Every register that calls make is within the rules' limits. Assumes nothing.
 use Prim.Native.Nat.{ℕ, zero, suc, _+_, _-_, _%_, _/_, _≤_, _<_}
 use native.Mathlib.Decide.{decLt, ℕ-discrete}
 use native.Mathlib.Omega.{arith}

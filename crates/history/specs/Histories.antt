@@ -1,4 +1,4 @@
--- Document 01's calls as values, and the register that a list of them makes of another. Assumes nothing.
+-- The rules' calls as values, and the register that a list of them makes of another. Assumes nothing.
 use Prim.Native.Nat.{ℕ}
 use mathlib.Core.Bool.{true}
 use mathlib.Core.List.{List, [], _∷_}

@@ -1,4 +1,4 @@
--- Document 01's limits of a register, apart from how it is held. Assumes nothing.
+-- The rules' limits of a register, apart from how it is held. Assumes nothing.
 use Prim.Native.Nat.{ℕ, _≤_}
 use mathlib.Core.Path.{_≡_}
 use mathlib.Core.Bool.{false}

@@ -1,4 +1,4 @@
--- Document 01, "Merging A from index a with B from index b along k edges". Assumes nothing.
+-- docs/RULES.md, "The register", merging A from index a with B from index b along k edges. Assumes nothing.
 use Prim.Native.Nat.{ℕ, suc, _+_, _-_}
 use mathlib.Core.Bool.{Bool, not, _||_}
 use mathlib.Core.List.{List, [], _∷_, _++_}

@@ -1,4 +1,4 @@
--- Document 01, "Splitting district d from i to j along a path". Assumes nothing.
+-- docs/RULES.md, "The register", splitting district d from i to j along a path. Assumes nothing.
 use Prim.Native.Nat.{ℕ, suc, _+_, _%_}
 use mathlib.Core.Bool.{Bool, not, _||_}
 use mathlib.Core.List.{List, [], _∷_, _++_, reverse}

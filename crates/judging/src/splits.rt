@@ -1,4 +1,4 @@
-// Whether a split is refused, and why: document 01's tests in its order, each asked once the earlier ones have passed.
+// Whether a split is refused, and why: the rules' tests in its order, each asked once the earlier ones have passed.
 use districts::NUMBERS;
 use refusals::Refusal;
 use refusals::Verdict;

@@ -1,4 +1,4 @@
--- Document 01, "Record stream": the bytes of a record, put in front of others. Assumes nothing.
+-- docs/RULES.md, "The record stream": the bytes of a record, put in front of others. Assumes nothing.
 use Prim.Native.Nat.{ℕ, zero, suc, _-_, _/_, _%_, _≤_, _<_}
 use mathlib.Core.Path.{_≡_}
 use mathlib.Core.List.{List, [], _∷_}

@@ -1,4 +1,4 @@
--- Document 01, "Record stream": what stands at the front of a stream's bytes. Assumes nothing.
+-- docs/RULES.md, "The record stream": what stands at the front of a stream's bytes. Assumes nothing.
 use Prim.Native.Nat.{ℕ, _+_, _*_}
 use mathlib.Core.Bool.{not, _&&_}
 use mathlib.Core.List.{List}
@@ -78,7 +78,7 @@ positionFront bytes =
     what : ℕ
     what = field bytes 7 1
 
--- by the kind byte; kinds 6 and 7 are unknown until document 02's requests bring them
+-- by the kind byte; any other kind is unknown
 abbrev pub byKind : ℕ → List ℕ → Front
 byKind kind bytes =
     pick (eqb kind 1) (outlineFront bytes)

@@ -1,5 +1,5 @@
 // Decoding the record at the front of a stream's bytes, by its kind. The places of fields are counted from the record's first byte, as the
-// layout lists them. Kinds 6 and 7 are unknown until document 02's requests bring them.
+// layout lists them. Any other kind is unknown.
 use crate::Decoded;
 use crate::Front;
 use crate::Sighting;

@@ -1,4 +1,4 @@
--- The documents' number of each refusal. Assumes nothing.
+-- The rules' number of each refusal. Assumes nothing.
 use Prim.Native.Nat.{ℕ}
 use Rattle.refusals.specs.declared.Refusal.{Refusal}
 use Rattle.refusals.specs.declared.Refusal.the-variants.{NotWellFormed, NoOutline, OutlineThere, NoRing, BeyondGrid, BadNumber, SameDistrict, BadIndex, TooFew, NoMatch, NumbersInUse, NoRoom, BrokenRecord, CountFull, NotFinite, Missing}

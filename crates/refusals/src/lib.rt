@@ -1,4 +1,4 @@
-// Why a call is refused: one enum for all calls, and the documents' number of each. Which refusal comes first is told by the calls' tables.
+// Why a call is refused: one enum for all calls, and the rules' number of each. Which refusal comes first is told by the calls' tables.
 ghost use mathlib.Core.Path.{_≡_};
 ghost use Rattle.refusals.specs.Numbers.{numberOf};
 

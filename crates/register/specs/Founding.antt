@@ -1,4 +1,4 @@
--- Document 01, "Founding": the outline is stored, and district 0 made with the same ring. Assumes nothing.
+-- docs/RULES.md, "The register", founding: the outline is stored, and district 0 made with the same ring. Assumes nothing.
 use Prim.Native.Nat.{_/_}
 use mathlib.Core.Bool.{Bool, not}
 use mathlib.Core.List.{List, [], _∷_}

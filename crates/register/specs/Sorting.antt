@@ -1,4 +1,4 @@
--- Document 01, "Assigning a report": where a point belongs in a register. Assumes nothing.
+-- docs/RULES.md, "The register", assigning: where a point belongs in a register. Assumes nothing.
 use Prim.Native.Nat.{ℕ}
 use mathlib.Core.Bool.{Bool, true, false, not, _||_}
 use mathlib.Core.List.{List, [], _∷_, _++_}

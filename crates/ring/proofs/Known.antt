@@ -1,4 +1,4 @@
--- Every starred point of document 01's "Known points" lies where its row says. Assumes nothing.
+-- Every starred point of the rules' "Known points" lies where its row says. Assumes nothing.
 use mathlib.Core.Path.{_≡_, refl}
 use mathlib.Core.List.{map}
 use Rattle.ring.specs.Grid.{vertices}

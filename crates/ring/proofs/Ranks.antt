@@ -1,4 +1,4 @@
--- The two orders of points by which the code finds a quadrant tell what the table of document 01 tells. Assumes nothing.
+-- The two orders of points by which the code finds a quadrant tell what the table of the rules tells. Assumes nothing.
 use Prim.Native.Nat.{ℕ, zero, suc, _+_, _<_, _≤_}
 use native.Mathlib.Omega.{arith}
 use mathlib.Core.Path.{_≡_, refl, sym, ap, _∙_}

@@ -9,7 +9,7 @@ use Rattle.ring.specs.declared.Located.the-variants.{Vertex, Edge, Off, 
 use Rattle.ring.specs.Choices.{pick}
 use Rattle.ring.specs.Locate.{Place, vertex, edge, off, refused, located, placeOf}
 
--- the code's answer that says a place: document 01's numbers and values are read back
+-- the code's answer that says a place: the rules' numbers and values are read back
 abbrev answerOf : Place → Located
 answerOf (vertex i) = Vertex i
 answerOf (edge i) = Edge i

@@ -1,4 +1,4 @@
--- What a walk that has gone along the first i edges of a ring has found, and that it is what document 01 asks for: at the start,
+-- What a walk that has gone along the first i edges of a ring has found, and that it is what the rules asks for: at the start,
 -- after one edge more, when it meets a vertex, and when it has gone all the way round. Assumes nothing.
 use Prim.Native.Nat.{ℕ, suc, _+_, _≤_, _<_}
 use native.Mathlib.Decide.{ℕ-discrete}

@@ -1,4 +1,4 @@
--- Document 01, "Grid and rings": coordinates, points, and the ring that a list x, y, x, y, .. is. Assumes nothing.
+-- docs/RULES.md, "Points and rings": coordinates, points, and the ring that a list x, y, x, y, .. is. Assumes nothing.
 use Prim.Native.Nat.{ℕ, _%_}
 use mathlib.Core.Bool.{Bool, false, _||_}
 use mathlib.Core.List.{List, [], _∷_}

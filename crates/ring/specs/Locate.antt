@@ -1,4 +1,4 @@
--- Document 01's answer to where a point lies, with the numbers of its refusals, and how the code's enums say it. Assumes nothing.
+-- The rules' answer to where a point lies, with the numbers of its refusals, and how the code's enums say it. Assumes nothing.
 use Prim.Native.Nat.{ℕ, zero, suc, _/_}
 use mathlib.Core.Bool.{Bool, true, false, _||_}
 use mathlib.Core.List.{List}
@@ -17,7 +17,7 @@ use Rattle.ring.specs.Rings.{at}
 use Rattle.ring.specs.Segment.{same, onSegment}
 use Rattle.ring.specs.Turns.{winding, oddly}
 
--- document 01's answers: a vertex's index, an edge's, or off the ring with the winding number and whether it is odd; or a refusal's number
+-- the rules' answers: a vertex's index, an edge's, or off the ring with the winding number and whether it is odd; or a refusal's number
 pub data Place : Type 0 where
   vertex edge : ℕ → Place
   off : ℤ → Bool → Place
@@ -50,7 +50,7 @@ located xs a b =
     (pick (someBeyond xs || (beyond a || beyond b)) (refused 5)
     (locatedOn (vertices xs) (point a b)))
 
--- what each enum of the code says, in document 01's numbers and values
+-- what each enum of the code says, in the rules' numbers and values
 abbrev pub isOdd : Parity → Bool
 isOdd Even = false
 isOdd Odd = true

@@ -1,4 +1,4 @@
--- Document 01: a vertex that equals R, and R on the closed segment of an edge. Assumes nothing.
+-- The rules: a vertex that equals R, and R on the closed segment of an edge. Assumes nothing.
 use mathlib.Core.Bool.{Bool, _&&_, _||_}
 use Prim.Native.Nat.{ℕ, _+_, _<_}
 use mathlib.Core.Path.{_≡_}

@@ -1,4 +1,4 @@
--- Document 01, "Locating": quadrants, quarter turns and the winding number. Assumes nothing.
+-- docs/RULES.md, "Points and rings": quadrants, quarter turns and the winding number. Assumes nothing.
 use Prim.Native.Nat.{ℕ, zero, suc, _%_}
 use mathlib.Core.Bool.{Bool, _&&_}
 use mathlib.Core.List.{List}

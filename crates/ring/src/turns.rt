@@ -71,7 +71,7 @@ fn by_column(p: Point) -> i64
     rank(p.x as i64, -(p.y as i64))
 }
 
-// The quadrant of p as seen from r, by their ranks: two numbers to compare where the table of document 01 has eight comparisons, and those of r
+// The quadrant of p as seen from r, by their ranks: two numbers to compare where the table of the rules has eight comparisons, and those of r
 // stay the same all the way round a ring.
 pub fn quadrant(r: Point, p: Point) -> usize
     requires { ⌜ OnGrid r ⌝ }

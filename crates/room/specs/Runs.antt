@@ -1,4 +1,4 @@
--- Document 01, "The register": parts of a ring, its indices wrapping round. Assumes nothing.
+-- docs/RULES.md, "The register": parts of a ring, its indices wrapping round. Assumes nothing.
 use Prim.Native.Nat.{ℕ, zero, suc, _+_, _-_, _%_}
 use mathlib.Core.List.{List, [], _∷_}
 use Rattle.ring.specs.declared.Point.{Point}

@@ -1,4 +1,4 @@
--- Document 01, "Record stream": the records of a whole stream, one behind the other, and what is left behind them. Assumes nothing.
+-- docs/RULES.md, "The record stream": the records of a whole stream, one behind the other, and what is left behind them. Assumes nothing.
 use Prim.Native.Nat.{ℕ, zero, suc}
 use mathlib.Core.Path.{_≡_}
 use mathlib.Core.Bool.{Bool}

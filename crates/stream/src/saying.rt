@@ -1,6 +1,6 @@
 // The answers of the register's calls, as a line says them.
-use districts::Assigned;
 use changes::Changed;
+use districts::Assigned;
 use register::Founded;
 use wording::Said;
 ghost use mathlib.Core.Path.{_≡_};

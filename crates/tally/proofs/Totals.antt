@@ -67,7 +67,7 @@ fresh-sum : sum fresh ≡ 0
 unfolding sumTo
 fresh-sum = refl
 
--- document 01: from a fresh tally, the sum of all its counts is the number of reports that were not refused
+-- the rules: from a fresh tally, the sum of all its counts is the number of reports that were not refused
 pub sum-counts : (answers : List Answer) → sum (run fresh answers) ≡ accepted fresh answers
 sum-counts answers =
     let all : sum (run fresh answers) ≡ sum fresh + accepted fresh answers = run-sum fresh answers refl in

@@ -1,4 +1,4 @@
--- Document 01's tally, and what an answer does to it. The contracts of `tally` cite these definitions. Assumes nothing.
+-- The rules' tally, and what an answer does to it. The contracts of `tally` cite these definitions. Assumes nothing.
 use Prim.Native.Nat.{ℕ, _+_}
 use mathlib.Core.Bool.{Bool, false, cond, _||_}
 use mathlib.Core.List.{List, [], _∷_}

@@ -92,7 +92,7 @@ fn raise(t: Tally, report: Report) -> Outcome
 }
 
 // The tally and the answer after one assigned report, by value. A refusal passes through and is not counted.
-pub fn counted(t: Tally, a: Assigned) -> Outcome
+fn counted(t: Tally, a: Assigned) -> Outcome
     ensures { λ r. ⌜ (r .tally ≡ tallied t (answerOf a)) × (answerOf (r .answer) ≡ answered t (answerOf a)) ⌝ }
 {
     match a {

@@ -1,7 +1,7 @@
 // An answer in one form, whichever implementation gave it, so that two can be compared, counted and printed.
+use changes::Changed;
 use districts::Assigned;
 use districts::Class;
-use judging::Changed;
 use register::Founded;
 use ring::Located;
 use ring::Parity;
@@ -113,19 +113,12 @@ fn is_odd(p: Parity) -> bool {
     }
 }
 
-fn ring_refusal(r: ring::Refusal) -> usize {
-    match r {
-        ring::Refusal::NoRing => 4,
-        ring::Refusal::BeyondGrid => 5,
-    }
-}
-
 pub fn by_ring(place: Located) -> Answer {
     match place {
         Located::Vertex(i) => Answer::of(VERTEX, i),
         Located::Edge(i) => Answer::of(EDGE, i),
         Located::Off(w, p) => off(test_second::size(w.0) as usize, w.0 < 0, is_odd(p)),
-        Located::Refused(r) => Answer::of(REFUSED, ring_refusal(r)),
+        Located::Refused(r) => Answer::of(REFUSED, refusals::number(r)),
     }
 }
 
@@ -141,14 +134,14 @@ pub fn by_second(place: Where) -> Answer {
 pub fn founded(f: Founded) -> Answer {
     match f {
         Founded::Done => Answer::of(FOUNDED, 0),
-        Founded::Refused(r) => Answer::of(REFUSED, districts::refusal_number(r)),
+        Founded::Refused(r) => Answer::of(REFUSED, refusals::number(r)),
     }
 }
 
 pub fn changed(what: usize, c: Changed) -> Answer {
     match c {
         Changed::Done(d) => Answer::of(what, d),
-        Changed::Refused(r) => Answer::of(REFUSED, judging::refusal_number(r)),
+        Changed::Refused(r) => Answer::of(REFUSED, refusals::number(r)),
     }
 }
 
@@ -174,7 +167,7 @@ pub fn assigned(a: Assigned) -> Answer {
             let class = r.class;
             classed(class).of_report(r.number)
         }
-        Assigned::Refused(r) => Answer::of(REFUSED, districts::refusal_number(r)),
+        Assigned::Refused(r) => Answer::of(REFUSED, refusals::number(r)),
     }
 }
 

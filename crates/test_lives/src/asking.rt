@@ -4,7 +4,7 @@ use crate::answer::Answer;
 use crate::answer::Both;
 use crate::compare;
 use fixes::Fix;
-use positions::Position;
+use register::Position;
 use test_cases::Edit;
 use test_rows::Sent;
 ghost use mathlib.Core.Path.{_≡_};
@@ -57,7 +57,7 @@ fn by_library(
             )
         }
         Edit::Report { number, sent } => {
-            answer::assigned(positions::assign_at(outline, store, runs, number, position(sent)))
+            answer::assigned(register::assign_at(outline, store, runs, number, position(sent)))
         }
     }
 }

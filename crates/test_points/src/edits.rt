@@ -1,4 +1,4 @@
-// Document 01's listing of edits, its known point of a split, and reports by position, each call printed with the library's answer.
+// The rules' listing of edits, its known point of a split, and reports by position, each call printed with the library's answer.
 use crate::said;
 use crate::say;
 use test_cases::Edit;
@@ -13,7 +13,7 @@ const OUTLINE_NUMBERS: usize = 8;
 
 const CALLS: usize = 24;
 
-// Document 01's listing; then a split along a path that leaves the square; then reports by position, near a rectangle from 62 to 188 mm:
+// The rules' listing; then a split along a path that leaves the square; then reports by position, near a rectangle from 62 to 188 mm:
 // 0.0625 m and 0.1875 m are exactly half way between two millimetres, and the first report comes before there is an outline.
 const CALLED: [Edit; CALLS] = [
     Edit::Found,
@@ -112,7 +112,7 @@ fn call(k: usize) -> Edit {
     Edit::Found
 }
 
-// Prints one call as document 01 does.
+// Prints one call as the rules does.
 fn print(name: &[u8], edit: Edit, both: Both) {
     say::text(name);
     match edit {

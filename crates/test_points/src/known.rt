@@ -1,4 +1,4 @@
-// The known points of document 01 that concern locating, each printed as the picture, the point and the library's answer.
+// The known points of the rules that concern locating, each printed as the picture, the point and the library's answer.
 use crate::said;
 use crate::say;
 use test_lives::Score;

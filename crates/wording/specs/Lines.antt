@@ -1,4 +1,4 @@
--- Document 01, "Record stream and grouping program": the lines that the grouping program prints. Assumes nothing.
+-- docs/RULES.md, "The lines": the lines that the grouping program prints. Assumes nothing.
 use Prim.Native.Nat.{ℕ}
 use mathlib.Core.Path.{_≡_}
 use mathlib.Core.List.{List, _++_}

@@ -1,4 +1,4 @@
-//! Document 01 again in plain Rust, to compare the library with; only the answers' types are shared.
+//! The rules again in plain Rust, to compare the library with; only the answers' types are shared.
 //! Winding numbers are counted by the crossing rule, determinants have 128 bits, and every district
 //! is a row of its own; a fix is rounded by its decimals. Refusal 1 is not given here: rows have no
 //! way to be damaged.

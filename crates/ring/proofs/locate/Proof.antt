@@ -1,4 +1,4 @@
--- `ring::locate` refuses in document 01's order and otherwise answers what the walk round the ring finds. Assumes nothing.
+-- `ring::locate` refuses in the rules' order and otherwise answers what the walk round the ring finds. Assumes nothing.
 use Prim.Native.Nat.{_/_, _%_}
 use native.Mathlib.Omega.{arith}
 use mathlib.Core.Path.{_≡_, sym, ap, _∙_}
@@ -31,7 +31,7 @@ beyond-requires c κs = search needs
 beyond-requires-2 : tie.Need-beyond-requires-2
 beyond-requires-2 c κs = search needs
 
--- the first test is document 01's
+-- the first test is the rules'
 a-ring : (c : tie.Else1) → noRing (length (c .before .before .args .ring .now)) (length (c .before .before .args .ring .now) / 2) ≡ false
 a-ring c = sym (c .before .no-ring .ensures) ∙ c .if1 .left
 

@@ -1,4 +1,4 @@
--- `judging::matching::judge_border` asks in document 01's order. Assumes nothing.
+-- `judging::matching::judge_border` asks in the rules' order. Assumes nothing.
 use Prim.Native.Nat.{_+_, _-_, _<_}
 use native.Mathlib.Omega.{arith}
 use mathlib.Core.Path.{_≡_, sym, ap, _∙_}

@@ -1,4 +1,4 @@
--- `judging::splits::judge_cut` asks in document 01's order. Assumes nothing.
+-- `judging::splits::judge_cut` asks in the rules' order. Assumes nothing.
 use Prim.Native.Nat.{_%_, _<_}
 use mathlib.Core.Path.{sym, _∙_}
 use mathlib.Core.Bool.{_||_}

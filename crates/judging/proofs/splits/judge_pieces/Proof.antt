@@ -1,4 +1,4 @@
--- `judging::splits::judge_pieces` asks in document 01's order. Assumes nothing.
+-- `judging::splits::judge_pieces` asks in the rules' order. Assumes nothing.
 use Prim.Native.Nat.{ℕ, suc, _+_, _/_}
 use native.Mathlib.Omega.{arith}
 use mathlib.Core.Path.{_≡_, sym, _∙_}

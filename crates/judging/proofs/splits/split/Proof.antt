@@ -1,4 +1,4 @@
--- `judging::splits::split` asks in document 01's order. Assumes nothing.
+-- `judging::splits::split` asks in the rules' order. Assumes nothing.
 use mathlib.Core.Path.{sym, ap, _∙_}
 use borrow.Author.Needs.{needs}
 use Rattle.refusals.specs.Verdicts.{verdict, verdictOf}

@@ -1,4 +1,4 @@
--- `register::founding::judged` asks in document 01's order. Assumes nothing.
+-- `register::founding::judged` asks in the rules' order. Assumes nothing.
 use Prim.Native.Nat.{_/_}
 use native.Mathlib.Omega.{arith}
 use mathlib.Core.Path.{_≡_, sym, ap, _∙_}

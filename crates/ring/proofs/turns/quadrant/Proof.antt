@@ -1,4 +1,4 @@
--- `ring::turns::quadrant` chooses by the tests of the two ranks what the table of document 01 says (`chosen-quadrant`). Assumes nothing.
+-- `ring::turns::quadrant` chooses by the tests of the two ranks what the table of the rules says (`chosen-quadrant`). Assumes nothing.
 use mathlib.Core.Path.{_≡_, refl}
 use mathlib.Core.Bool.{Bool, true, false}
 use lib.IntN.{ℤ}

@@ -1,4 +1,4 @@
--- `ring::walk::locate_on` finds what document 01 asks for. The invariant: the walk has gone along the first i edges (`Walked`) and not along
+-- `ring::walk::locate_on` finds what the rules asks for. The invariant: the walk has gone along the first i edges (`Walked`) and not along
 -- the last, which leads back to the first vertex. The measure is the number of edges left. Assumes nothing.
 use Prim.Native.Nat.{ℕ, suc, _+_, _-_, _<_}
 use native.Mathlib.Numerals.{add-one}
