@@ -1,12 +1,14 @@
-/* launchramp.h: the calls of target/staticlib/liblaunchramp.a (`rt staticlib launchramp`), for C and C++.
+/* launchramp.h: the calls of liblaunchramp, for C and C++. Where a point lies, and districts that are split, merged and asked, all exactly.
  *
- * A register is three lists that the caller keeps: an outline of 4,096 numbers, a store of 4,096 and runs of 129. Lists of zeros are an empty
- * register. Rings, paths, outlines and the store hold x, y, x, y, ..; coordinates are whole millimetres.
+ * A register is three lists that the caller keeps: `outline` of LAUNCHRAMP_OUTLINE_LENGTH numbers, `store` of LAUNCHRAMP_STORE_LENGTH and `runs` of
+ * LAUNCHRAMP_RUNS_LENGTH. Lists of zeros are an empty register. Rings, paths, outlines and the store hold x, y, x, y, ..; coordinates are whole
+ * millimetres. A list's length is told in numbers, not in points or bytes.
  * runs[0] is the outline's number of vertices (0: no outline); runs[1 + d] is where district d's ring begins in the store, counted in
  * vertices, and runs[65 + d] how many vertices it has (0: the number is unused). Read them; only the calls should write them.
- * Every call takes every input: lists of any length and content, any number, NaNs too. What documents 01 and 02 refuse is answered
- * LAUNCHRAMP_REFUSED, and a refused call changes no list and no count. A list may be of length 0; its pointer must not be null even then.
- * Lists that one call is lent must not overlap where one of them is changed.
+ * Every call takes every input: lists of any length and content, any number, NaNs too. What the rules refuse is answered
+ * LAUNCHRAMP_REFUSED, and a refused call changes no list and no count. Lists that one call is lent must not overlap where one of them is changed.
+ * A pointer must not be null, not even where its length is 0: the compiled code may take that for granted. An empty path is any pointer with length 0.
+ * `values` has LAUNCHRAMP_VALUES places and `counts` LAUNCHRAMP_COUNTS; their lengths are not handed over.
  *
  * A report's position is one of three: a point of the grid (launchramp_assign), a receiver's fix (launchramp_assign_fix) or missing
  * (launchramp_assign_missing). A fix is an easting and a northing, doubles of metres. Each becomes the nearest millimetre of its exact value,
@@ -15,7 +17,7 @@
  *
  * An answer is its kind, which is returned, and two values, written to `values`; a value that is not named here is 0:
  *
- *   LAUNCHRAMP_REFUSED   the refusal's number (docs/RULES.md)
+ *   LAUNCHRAMP_REFUSED   the refusal's number, LAUNCHRAMP_NOT_WELL_FORMED to LAUNCHRAMP_MISSING
  *   LAUNCHRAMP_DONE      the number of the district that was made (split), kept (merge) or founded (0); of a fix's millimetres 0
  *   LAUNCHRAMP_VERTEX    the index of the lowest vertex that is the point
  *   LAUNCHRAMP_EDGE      the index of the lowest edge that holds the point
@@ -35,6 +37,9 @@
 #ifdef __cplusplus
 extern "C" {
 #endif
+
+/* The version of the library that this header is of. */
+#define LAUNCHRAMP_VERSION "0.3.0"
 
 #define LAUNCHRAMP_OUTLINE_LENGTH 4096
 #define LAUNCHRAMP_STORE_LENGTH 4096
@@ -60,6 +65,25 @@ enum {
     LAUNCHRAMP_SEVERAL = 8
 };
 
+/* Why a call is refused. Each call asks in the order in which its refusals are listed below, and the first that holds is answered. */
+enum {
+    LAUNCHRAMP_NOT_WELL_FORMED = 1, /* the lists are no well-formed register */
+    LAUNCHRAMP_NO_OUTLINE = 2,
+    LAUNCHRAMP_OUTLINE_THERE = 3,
+    LAUNCHRAMP_NO_RING = 4,         /* a list of odd length, or fewer than 3 or more than 2,048 vertices */
+    LAUNCHRAMP_BEYOND_GRID = 5,     /* a coordinate beyond +-1,000,000,000 */
+    LAUNCHRAMP_BAD_NUMBER = 6,      /* a district's number above 63 or unused */
+    LAUNCHRAMP_SAME_DISTRICT = 7,   /* a merge of a district with itself */
+    LAUNCHRAMP_BAD_INDEX = 8,       /* no such vertex, or a split with i = j */
+    LAUNCHRAMP_TOO_FEW = 9,         /* a piece or a result of fewer than 3 vertices */
+    LAUNCHRAMP_NO_MATCH = 10,       /* the borders do not match, or k is 0 or as large as a ring */
+    LAUNCHRAMP_NUMBERS_IN_USE = 11, /* all 64 */
+    LAUNCHRAMP_NO_ROOM = 12,        /* more than 2,048 vertices in all districts afterwards */
+    LAUNCHRAMP_COUNT_FULL = 14,     /* the count to be raised is 4,294,967,295 */
+    LAUNCHRAMP_NOT_FINITE = 18,     /* a NaN or an infinity in a fix */
+    LAUNCHRAMP_MISSING = 19         /* a missing position */
+};
+
 /* Where a point lies against one ring: VERTEX, EDGE, OFF; refusals 4, 5. */
 uint32_t launchramp_locate(const int32_t *ring, size_t ring_length, int32_t x, int32_t y, uint64_t *values);
 
@@ -71,12 +95,14 @@ bool launchramp_well_formed(const int32_t *outline, size_t outline_length, const
 uint32_t launchramp_found(int32_t *outline, size_t outline_length, int32_t *store, size_t store_length, uint32_t *runs,
                           size_t runs_length, const int32_t *ring, size_t ring_length, uint64_t *values);
 
-/* Splits district d from its vertex i to its vertex j along a path: DONE; refusals 1, 2, 4, 5, 6, 8, 9, 11, 12. */
+/* Splits district d from its vertex i to its vertex j along a path: DONE; refusals 1, 2, 6, 8, 4 (a path of odd length), 5, 9, 11, 12. The piece from i
+ * forward to j and back along the path keeps number d; the piece from j forward to i and on along the path takes the lowest unused number. */
 uint32_t launchramp_split(const int32_t *outline, size_t outline_length, int32_t *store, size_t store_length, uint32_t *runs,
                           size_t runs_length, size_t d, size_t i, size_t j, const int32_t *path, size_t path_length,
                           uint64_t *values);
 
-/* Merges district `gone`, at its vertex b, into district `kept`, at its vertex a, along k edges: DONE; refusals 1, 2, 6, 7, 8, 9, 10. */
+/* Merges district `gone` into district `kept` along k edges: DONE; refusals 1, 2, 6, 7, 8, 10, 9. The border is kept's vertices a, a+1, .., a+k and
+ * gone's vertices b, b-1, .., b-k: as both rings go round the same way, gone's runs backward. */
 uint32_t launchramp_merge(const int32_t *outline, size_t outline_length, int32_t *store, size_t store_length, uint32_t *runs,
                           size_t runs_length, size_t kept, size_t a, size_t gone, size_t b, size_t k, uint64_t *values);
 
@@ -89,10 +115,10 @@ uint32_t launchramp_assign_counted(const int32_t *outline, size_t outline_length
                                    const uint32_t *runs, size_t runs_length, int32_t x, int32_t y, uint32_t *counts,
                                    uint64_t *values);
 
-/* Writes the millimetres x, y of a fix to `point`, which has two places: DONE; refusals 5, 18, and then `point` stays as it was. */
+/* Writes the millimetres x, y of a fix to `point`, which has two places: DONE; refusals 18, 5, and then `point` stays as it was. */
 uint32_t launchramp_millimetres(double easting, double northing, int32_t *point, uint64_t *values);
 
-/* Sorts a report by a receiver's fix: BORDER, ONE, NONE, SEVERAL; refusals 1, 2, 5, 18. */
+/* Sorts a report by a receiver's fix: BORDER, ONE, NONE, SEVERAL; refusals 1, 2, 18, 5. */
 uint32_t launchramp_assign_fix(const int32_t *outline, size_t outline_length, const int32_t *store, size_t store_length,
                                const uint32_t *runs, size_t runs_length, double easting, double northing, uint64_t *values);
 

@@ -1,5 +1,5 @@
 //! Sorting fault reports into districts, exactly: a safe wrapper of the proved library
-//! liblaunchramp.a, whose rules are those of the rules.
+//! liblaunchramp.a, whose rules docs/RULES.md tells.
 //!
 //! Coordinates are whole millimetres, -1,000,000,000 to 1,000,000,000. Rings and paths are lists
 //! x, y, x, y, .. A report's position may also be a receiver's fix, in metres. Every call takes every
@@ -27,6 +27,8 @@ mod refusal;
 
 use calls::Answer;
 pub use refusal::Refusal;
+use std::collections::BTreeMap;
+use std::fmt;
 
 /// District numbers go from 0 to 63.
 pub const NUMBERS: usize = 64;
@@ -226,6 +228,34 @@ impl Register {
 impl Default for Register {
     fn default() -> Register {
         Register::new()
+    }
+}
+
+/// Registers are equal if they have the same outline and the same districts, wherever the lists hold
+/// them; damaged ones if their lists are.
+impl PartialEq for Register {
+    fn eq(&self, other: &Register) -> bool {
+        if !self.is_well_formed() || !other.is_well_formed() {
+            return self.lists() == other.lists();
+        }
+        self.outline() == other.outline()
+            && (0..NUMBERS).all(|d| self.district(d) == other.district(d))
+    }
+}
+
+impl Eq for Register {}
+
+/// The outline and the districts in use, or the lists of a damaged register.
+impl fmt::Debug for Register {
+    fn fmt(&self, f: &mut fmt::Formatter<'_>) -> fmt::Result {
+        if !self.is_well_formed() {
+            return f.debug_tuple("DamagedRegister").field(&self.lists()).finish();
+        }
+        let used = (0..NUMBERS).filter_map(|d| Some((d, self.district(d)?)));
+        f.debug_struct("Register")
+            .field("outline", &self.outline())
+            .field("districts", &used.collect::<BTreeMap<_, _>>())
+            .finish()
     }
 }
 

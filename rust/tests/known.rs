@@ -477,3 +477,28 @@ fn refusals_have_the_documents_numbers() {
         "the register has no outline yet"
     );
 }
+
+#[test]
+fn registers_are_compared_and_shown_by_their_districts() {
+    let square = [0, 0, 4, 0, 4, 4, 0, 4];
+    let mut split = Register::new();
+    split.found(&square).unwrap();
+    split.split(0, 0, 2, &[]).unwrap();
+    // The same districts again, with litter in the free room.
+    let (outline, store, runs) = split.lists();
+    let mut littered = store.to_vec();
+    littered[STORE_LENGTH - 1] = 7;
+    let same = Register::from_lists(outline.to_vec(), littered, runs.to_vec());
+    assert_eq!(split, same);
+    let mut whole = Register::new();
+    whole.found(&square).unwrap();
+    assert_ne!(split, whole);
+    assert_eq!(
+        format!("{:?}", whole),
+        "Register { outline: Some([0, 0, 4, 0, 4, 4, 0, 4]), districts: {0: [0, 0, 4, 0, 4, 4, 0, 4]} }"
+    );
+    let damaged = Register::from_lists(vec![], vec![], vec![9]);
+    assert_eq!(damaged, damaged.clone());
+    assert_ne!(damaged, whole);
+    assert_eq!(format!("{:?}", damaged), "DamagedRegister(([], [], [9]))");
+}

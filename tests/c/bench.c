@@ -1,6 +1,6 @@
 /* bench: how long launchramp_locate takes beside the two plain C forms of forms.h, on the same inputs in the same run, and how long
  * assigning takes. All are compiled with the same flags (tests/c/build). Times are the best of several; all three forms must give the same
- * answers, or the status is 1. LAUNCHRAMP_EMULATOR names the emulator that runs it, if any (tests/c/run sets it). */
+ * answers, or the status is 1. LAUNCHRAMP_EMULATOR names the emulator that runs it, if any (tools/run-program sets it). */
 #define _POSIX_C_SOURCE 200809L
 #include "chance.h"
 #include "forms.h"
