@@ -2,13 +2,12 @@
 use Prim.Native.Nat.{ℕ, _+_, _-_, _≤_}
 use native.Mathlib.Omega.{arith}
 use mathlib.Core.Path.{_≡_, refl, sym, ap, subst, _∙_}
-use mathlib.Core.Bool.{Bool, true, false, _&&_, true≢false}
+use mathlib.Core.Bool.{Bool, true, false, not, _&&_, _||_, true≢false}
 use mathlib.Core.List.{List, [], _∷_, _++_, append-nil}
-use lib.Dec.{eqb, ltb}
+use lib.Dec.{ltb}
 use lib.IntN.{ℤ}
 use lib.ListN.{length, take, drop, length-drop}
 use lib.Seq.{take-at, take-add, drop-at, drop-drop, length-take-le, paste}
-use borrow.Author.Tests.{ltb-false, eq-eqb}
 use Rattle.districts.specs.Lent.{Lists}
 use Rattle.stream.specs.declared.Page.{Page}
 use Rattle.stream.specs.declared.Stop.the-variants.{More}
@@ -36,12 +35,17 @@ read-more n end input front h e =
     let all : end - 0 ≡ n + (end - n) = omega (arith, h) in
     ap (λ m. take m input) all ∙ take-add n (end - n) input ∙ ap (λ f. f ++ behind n end input) e
 
--- nothing has come: the reading is broken where something is left
-pub read-none : (n end m : ℕ) (input : List ℕ) → n ≤ end → m ≡ n → ltb n end ≡ false → (behind n end input ≡ []) × ((eqb n end && ltb 0 n) ≡ ltb 0 m)
-read-none n end m input h long none =
-    let same : n ≡ end = omega (arith, h, ltb-false n end none) in
-    let nothing : end - n ≡ 0 = omega (arith, same) in
-    (ap (λ k. take k (drop n input)) nothing, ap (λ b. b && ltb 0 n) (eq-eqb n end same) ∙ ap (ltb 0) (sym long))
+-- nothing has come
+pub read-none : (n end : ℕ) (input : List ℕ) → end ≡ n → behind n end input ≡ []
+read-none n end input same = ap (λ k. take k (drop n input)) (let nothing : end - n ≡ 0 = omega (arith, same) in nothing)
+
+-- at the end of the input the reading is broken where something is left, and where a read failed it is not
+pub broken-end : (going failed some : Bool) → going ≡ false → failed ≡ false → (not (going || failed) && some) ≡ some
+broken-end going failed some off fine = λ i. not (off i || fine i) && some
+
+pub broken-never : (going failed some : Bool) → failed ≡ true → (not (going || failed) && some) ≡ false
+broken-never true failed some e = refl
+broken-never false failed some e = λ i. not (e i) && some
 
 -- ---- printing takes no more than there is
 
@@ -105,35 +109,35 @@ module _ (d : Reading) (input : List ℕ) (l m : Lists) (list list′ : List ℤ
 
   -- e is that program with more bytes
   turned : (e : Reading) (after more : List ℕ) → Kept e after → e .tally ≡ p .tally → e .records ≡ p .records → waiting e after ≡ drop (p .at) (waiting d input) ++ more
-      → (e .going ≡ false → e .failed ≡ false → Closed (p .stop) (drop (p .at) (waiting d input)) more (e .broken)) → Turned d e input after l m
-  turned e after more kept tally records bytes closed = record {
+      → (e .going ≡ false → e .failed ≡ false → Closed (p .stop) (drop (p .at) (waiting d input)) more (e .broken)) → (e .failed ≡ true → e .broken ≡ false) → Turned d e input after l m
+  turned e after more kept tally records bytes closed fails = record {
     kept = kept;
     form = printed .form;
     records = omega (arith, within .records, records);
-    turns = λ s stood. (left s, one-piece s stood, record { lists = refl; tally = sym tally; records = sym records; since = more; bytes = bytes; closed = closed });
+    turns = λ s stood. (left s, one-piece s stood, record { lists = refl; tally = sym tally; records = sym records; since = more; bytes = bytes; closed = closed; fails = fails });
   }
 
   waits : take (d .end - (d .at + p .at)) (drop (d .at + p .at) input) ≡ drop (p .at) (waiting d input)
   waits = waits-on d input (p .at) (held .kept) (within .at)
 
-  pub turned-still : (going broken failed : Bool) (e : Reading) → e ≡ next going broken failed → (going ≡ false → failed ≡ false → Closed (p .stop) (drop (p .at) (waiting d input)) [] broken) → Turned d e input input l m
-  turned-still going broken failed e is closed =
+  pub turned-still : (going broken failed : Bool) (e : Reading) → e ≡ next going broken failed → (going ≡ false → failed ≡ false → Closed (p .stop) (drop (p .at) (waiting d input)) [] broken) → (failed ≡ true → broken ≡ false) → Turned d e input input l m
+  turned-still going broken failed e is closed fails =
       subst (λ r. Turned d r input input l m) (sym is)
-      (turned (next going broken failed) input [] (record { taken = within .at; there = held .kept .there }) refl refl (waits ∙ sym (append-nil (drop (p .at) (waiting d input)))) closed)
+      (turned (next going broken failed) input [] (record { taken = within .at; there = held .kept .there }) refl refl (waits ∙ sym (append-nil (drop (p .at) (waiting d input)))) closed fails)
 
   pub turned-refilled : (going broken failed : Bool) (e : Reading) (after : List ℕ) → p .stop ≡ More → Refilled (next going broken failed) e input after → Turned d e input after l m
   turned-refilled going broken failed e after stop r =
       turned e after (r .more) (r .kept) (r .tally) (r .records) (r .bytes ∙ ap (λ w. w ++ r .more) waits)
-      (λ off fine. let none = r .ends off in at-end stop (none .0) (none .1 ∙ ap (λ w. ltb 0 (length w)) waits))
+      (λ off fine. let none = r .ends off fine in at-end stop (none .0) (none .1 ∙ ap (λ w. ltb 0 (length w)) waits)) (r .fails)
 
 -- ---- one piece after the other
 
-pub went-none : (l : Lists) (d : Reading) (input : List ℕ) → starting l .tally ≡ d .tally → d .records ≡ 0 → waiting d input ≡ [] → d .going ≡ true → Went l d input l
+pub went-none : (l : Lists) (d : Reading) (input : List ℕ) → starting l .tally ≡ d .tally → d .records ≡ 0 → waiting d input ≡ [] → d .going ≡ true → d .broken ≡ false → Went l d input l
 unfolding Reads lastOf
-went-none l d input t n none on = record {
+went-none l d input t n none on whole = record {
   parts = [];
   reads = tt;
-  stands = record { lists = refl; tally = t; records = sym n; since = []; bytes = none; closed = λ off fine. absurd (true≢false (sym on ∙ off)) };
+  stands = record { lists = refl; tally = t; records = sym n; since = []; bytes = none; closed = λ off fine. absurd (true≢false (sym on ∙ off)); fails = λ f. whole };
 }
 
 reads-more : (s : Standing) (ps : List Part) (bytes : List ℕ) (t : Standing) → Reads s ps → Piece (lastOf s ps) bytes t → Reads s (ps ++ record { bytes = bytes; left = t } ∷ [])

@@ -5,12 +5,15 @@ use mathlib.Core.Bool.{Bool, true, false}
 use mathlib.Core.List.{List, [], _++_}
 use lib.Dec.{ltb}
 use lib.ListN.{length, take, drop}
+use Rattle.ring.specs.Choices.{pick}
 use Rattle.districts.specs.Lent.{Lists, formed}
 use Rattle.tally.specs.Tally.{fresh}
 use Rattle.stream.specs.declared.Stop.{Stop}
 use Rattle.stream.specs.declared.Stop.the-variants.{More, Broken}
+use Rattle.stream.specs.Desks.{brokenLine, lastLine}
 use Rattle.stream.specs.Pieces.{Standing, Piece, Part, Reads, lastOf}
 use Rattle.launchramp.specs.declared.Reading.{Reading}
+use Rattle.launchramp.specs.declared.ports.Filled.{Filled}
 
 -- how long the input's buffer is
 abbrev pub piece : ℕ
@@ -25,12 +28,21 @@ pub record Kept (d : Reading) (input : List ℕ) : Type 0 where
   pub taken : d .at ≤ d .end
   pub there : d .end ≤ length input
 
--- the bytes that were not taken wait in front of others; where none have come the input is at its end, and what is left is a cut record
+-- a read leaves the first n bytes, and puts others behind them; where no more can come it has put none
+pub record Brought (n : ℕ) (r : Filled) (before after : List ℕ) : Type 0 where
+  pub behind : n ≤ r .end
+  pub there : r .end ≤ length before
+  pub front : take n after ≡ take n before
+  pub ends : r .going ≡ false → r .end ≡ n
+
+-- the bytes that were not taken wait in front of others; at the end of the input none have come, and what is left is a cut record; where the
+-- input could not be read nothing is broken
 pub record Refilled (d e : Reading) (before after : List ℕ) : Type 0 where
   pub kept : Kept e after
   pub more : List ℕ
   pub bytes : waiting e after ≡ waiting d before ++ more
-  pub ends : e .going ≡ false → (more ≡ []) × (e .broken ≡ ltb 0 (length (waiting d before)))
+  pub ends : e .going ≡ false → e .failed ≡ false → (more ≡ []) × (e .broken ≡ ltb 0 (length (waiting d before)))
+  pub fails : e .failed ≡ true → e .broken ≡ false
   pub tally : e .tally ≡ d .tally
   pub records : e .records ≡ d .records
 
@@ -41,7 +53,7 @@ pub record Held (d : Reading) (input : List ℕ) (l : Lists) : Type 0 where
   pub form : formed l ≡ true
   pub countable : d .records ≤ 4_611_686_018_427_387_904
 
--- why a program reads no further: the input is at its end, and broken tells whether a cut record is left, or a broken record stands in front
+-- why a program reads no further, if nothing failed: the input is at its end, and broken tells whether a cut record is left, or a broken record stands in front
 pub data Closed (stop : Stop) (held since : List ℕ) (broken : Bool) : Type 0 where
   at-end : stop ≡ More → since ≡ [] → broken ≡ ltb 0 (length held) → Closed stop held since broken
   at-broken : stop ≡ Broken → broken ≡ true → Closed stop held since broken
@@ -54,6 +66,7 @@ pub record Stands (s : Standing) (d : Reading) (input : List ℕ) (l : Lists) : 
   pub since : List ℕ
   pub bytes : waiting d input ≡ s .held ++ since
   pub closed : d .going ≡ false → d .failed ≡ false → Closed (s .stop) (s .held) since (d .broken)
+  pub fails : d .failed ≡ true → d .broken ≡ false
 
 -- a turn leaves as much, and a piece's records at most have come; wherever the program stood, the turn was a piece of what it had read since
 pub record Turned (d e : Reading) (before after : List ℕ) (l m : Lists) : Type 0 where
@@ -71,3 +84,13 @@ pub record Went (l : Lists) (d : Reading) (input : List ℕ) (m : Lists) : Type 
   pub parts : List Part
   pub reads : Reads (starting l) parts
   pub stands : Stands (lastOf (starting l) parts) d input m
+
+-- what the program hands to be written behind the records' lines: the line of a broken record, if one ended the reading, and the end line;
+-- nothing where a read or a write failed
+abbrev pub lastText : Reading → List ℕ
+lastText d = pick (d .failed) [] (brokenLine (d .broken) (d .records) ++ lastLine (d .records) (d .tally))
+
+-- a list whose first r places hold a text
+pub record Opens (r : ℕ) (text list : List ℕ) : Type 0 where
+  pub there : r ≤ length list
+  pub first : take r list ≡ text

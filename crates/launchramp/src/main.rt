@@ -1,8 +1,11 @@
 // The grouping program: reads a record stream from standard input and prints a line for each record and the end line. It is proved to end and to
-// be safe, and each turn to be one piece of the stream, so that what it prints is the stream's output (proofs/Whole.antt).
+// be safe, and each turn to be one piece of the stream, so that what it prints is the stream's output (proofs/Whole.antt). How it ended is told by
+// one sentence on standard error, or by none where it read and wrote everything.
+mod ports;
+
 use libc::STDERR_FILENO;
-use libc::STDIN_FILENO;
-use libc::STDOUT_FILENO;
+use ports::written;
+use refusals::Refusal;
 use stream::Stop;
 use tally::Tally;
 use wording::Kind;
@@ -13,18 +16,15 @@ ghost use Prim.Native.Nat.{_+_, _≤_};
 ghost use lib.ListN.{length, take, drop};
 ghost use lib.Seq.{paste};
 ghost use Rattle.history.specs.Turns.{Fresh};
-ghost use Rattle.launchramp.specs.Held.{piece, Kept, Refilled, Held, Turned, Went};
+ghost use Rattle.wording.specs.Lines.{room};
+ghost use Rattle.stream.specs.Desks.{brokenLine, lastLine};
+ghost use Rattle.launchramp.specs.Held.{piece, Kept, Refilled, Held, Turned, Went, lastText, Opens};
 
 // How long the two buffers are: several times the longest record.
 const PIECE: usize = 65_536;
 
-// Refusal 13, a broken record.
-const BROKEN: usize = 13;
-
-// A proved loop has to end, and nothing says that the input does: the turns are counted down from a number that no run uses up.
-const TURNS: usize = 70_368_744_177_664;
-
-// What was read so far. The bytes from `at` to `end` of the buffer are not taken yet; `failed` once standard output can't be written.
+// What was read so far. The bytes from `at` to `end` of the buffer are not taken yet; `failed` once a read or a write
+// has failed, and that is said.
 pub struct Reading {
     pub tally: Tally,
     pub records: usize,
@@ -47,33 +47,6 @@ fn shift(input: &mut [u8], at: usize, n: usize)
     }
 }
 
-// Reads once behind the first n bytes, and answers how many bytes there are then.
-fn read_behind(input: &mut [u8], n: usize) -> usize
-    requires { ⌜ n ≤ length (now input) ⌝ }
-    ensures { λ r. ⌜ (n ≤ r) × (r ≤ length (now (input .entry))) × (take n (now (input .exit)) ≡ take n (now (input .entry))) ⌝ }
-{
-    let part = &mut input[n..];
-    let got = libc::read(STDIN_FILENO, part);
-    if got < 0 {
-        io::write_all(
-            STDERR_FILENO,
-            b"launchramp: standard input could not be read further\n",
-        );
-    }
-    n + io::count(got, part)
-}
-
-fn written(text: &[u8]) -> bool {
-    let is_written = io::write_all(STDOUT_FILENO, text);
-    if !is_written {
-        io::write_all(
-            STDERR_FILENO,
-            b"launchramp: standard output could not be written\n",
-        );
-    }
-    is_written
-}
-
 // Keeps what is left in the buffer, and reads more behind it; at the end of the input what is left is a cut record.
 fn refilled(input: &mut [u8], d: Reading) -> Reading
     requires { ⌜ Kept d (now input) ⌝ }
@@ -83,15 +56,15 @@ fn refilled(input: &mut [u8], d: Reading) -> Reading
     let left = d.end - at;
     let tally = d.tally;
     shift(input, at, left);
-    let end = read_behind(input, left);
+    let filled = ports::read_behind(input, left);
     Reading {
         tally,
         records: d.records,
         at: 0,
-        end,
-        going: left < end,
-        broken: (left == end) & (0 < left),
-        failed: false,
+        end: filled.end,
+        going: filled.going,
+        broken: !(filled.going | filled.failed) & (0 < left),
+        failed: filled.failed,
     }
 }
 
@@ -178,7 +151,7 @@ fn read_all(
         broken: false,
         failed: false,
     };
-    let mut turns = TURNS;
+    let mut turns = ports::TRIES;
     while d.going & (0 < turns) {
         d = turn(input, output, coordinates, outline, store, runs, d);
         turns -= 1;
@@ -186,19 +159,51 @@ fn read_all(
     d
 }
 
-// The line of a record that ended the reading.
-fn say_broken(broken: bool, records: usize, output: &mut [u8]) {
+fn broken_line(to: &mut [u8], broken: bool, records: usize) -> usize
+    requires { ⌜ room ≤ length (now to) ⌝ }
+    ensures { λ r. ⌜ Opens r (brokenLine broken records) (now (to .exit)) ⌝ }
+{
     if !broken {
-        return;
+        return 0;
     }
-    let n = wording::line(output, records, Kind::Broken, Said::Refused(BROKEN));
-    written(&output[0..n]);
+    let number = refusals::number(Refusal::BrokenRecord);
+    wording::line(to, records, Kind::Broken, Said::Refused(number))
 }
 
-fn say_end(records: usize, t: Tally, output: &mut [u8]) {
+fn end_line(to: &mut [u8], records: usize, t: Tally) -> usize
+    requires { ⌜ room ≤ length (now to) ⌝ }
+    ensures { λ r. ⌜ Opens r (lastLine records t) (now (to .exit)) ⌝ }
+{
     let ones = tally::sum_of_ones(t);
-    let n = wording::end_line(output, records, ones, t.border, t.none, t.several);
-    written(&output[0..n]);
+    wording::end_line(to, records, ones, t.border, t.none, t.several)
+}
+
+// The lines behind those of the records, and how long they are.
+fn last_lines(to: &mut [u8], d: Reading) -> usize
+    requires { ⌜ length (now to) ≡ piece ⌝ }
+    ensures { λ r. ⌜ Opens r (lastText d) (now (to .exit)) ⌝ }
+{
+    if d.failed {
+        return 0;
+    }
+    let records = d.records;
+    let n = broken_line(to, d.broken, records);
+    n + end_line(&mut to[n..], records, d.tally)
+}
+
+// Writes the last lines, and then says that a broken record ended the stream.
+fn close(to: &mut [u8], d: Reading)
+    requires { ⌜ length (now to) ≡ piece ⌝ }
+{
+    let broken = d.broken;
+    let n = last_lines(to, d);
+    let is_written = written(&to[0..n]);
+    if is_written & broken {
+        io::write_all(
+            STDERR_FILENO,
+            b"launchramp: a broken record ended the stream\n",
+        );
+    }
 }
 
 fn main() {
@@ -216,7 +221,5 @@ fn main() {
         &mut store,
         &mut runs,
     );
-    let t = d.tally;
-    say_broken(d.broken, d.records, &mut output);
-    say_end(d.records, t, &mut output);
+    close(&mut output, d);
 }

@@ -25,17 +25,11 @@ read-all-requires : tie.Need-read-all-requires
 unfolding listTo
 read-all-requires c κs = (refl, fresh-lists _ _ refl refl)
 
-slice-aggregate-say-broken : tie.Need-slice-aggregate-say-broken
-slice-aggregate-say-broken c = search needs
+slice-aggregate-close : tie.Need-slice-aggregate-close
+slice-aggregate-close c = search needs
 
-say-broken-requires : tie.Need-say-broken-requires
-say-broken-requires c κs = search needs
-
-slice-aggregate-say-end : tie.Need-slice-aggregate-say-end
-slice-aggregate-say-end c = search needs
-
-say-end-requires : tie.Need-say-end-requires
-say-end-requires c κs = search needs
+close-requires : tie.Need-close-requires
+close-requires c κs = search needs
 
 returns : tie.Need-returns
 returns c = search needs
@@ -50,8 +44,6 @@ main-spec =
     slice-aggregate-read-all-4
     slice-aggregate-read-all-5
     read-all-requires
-    slice-aggregate-say-broken
-    say-broken-requires
-    slice-aggregate-say-end
-    say-end-requires
+    slice-aggregate-close
+    close-requires
     returns)

@@ -29,7 +29,7 @@ new-requires c κs = search needs
 loop-holds : tie.Need-loop-holds Inv-loop μ-loop
 loop-holds c =
     let start = c .before .before .before .before in
-    (went-none _ _ _ (sym (c .new .ensures)) refl refl refl, record { taken = omega arith; there = omega arith }, start .pre .1 .0, omega arith, refl, refl, refl, refl, refl)
+    (went-none _ _ _ (sym (c .new .ensures)) refl refl refl refl, record { taken = omega arith; there = omega arith }, start .pre .1 .0, omega arith, refl, refl, refl, refl, refl)
 
 turn-requires : tie.Need-turn-requires Inv-loop μ-loop
 turn-requires c κs =

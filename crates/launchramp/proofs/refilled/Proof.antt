@@ -1,10 +1,11 @@
 -- `launchramp::refilled` meets its contract. Assumes nothing.
 use native.Mathlib.Omega.{arith}
 use Prim.Native.Nat.{_-_}
-use mathlib.Core.Path.{refl, ap, _∙_}
+use mathlib.Core.Path.{refl, sym, ap, _∙_}
+use lib.Dec.{ltb}
 use lib.ListN.{take}
 use borrow.Author.Needs.{needs}
-use Rattle.launchramp.proofs.Keeping.{behind, moved-front, read-more, read-none, part-long}
+use Rattle.launchramp.proofs.Keeping.{behind, moved-front, read-more, read-none, broken-end, broken-never, part-long}
 use Rattle.launchramp.proofs.refilled.Statement.{statement}
 use Rattle.launchramp.proofs.refilled.Tie as tie
 
@@ -22,18 +23,21 @@ same-length c = search needs
 
 returns : tie.Need-returns
 returns c =
-    let reads = c .before .before in
+    let reads = c .before .before .before in
     let shifts = reads .before .before .before .before in
     let start = shifts .before .before .before .before .before in
     let d = start .args .d in
     let kept = start .pre in
     let left = d .end - d .at in
-    let front = reads .read-behind .ensures .2 ∙ ap (take left) (shifts .shift .ensures) ∙ moved-front left (d .at) (start .args .input .now) (omega (arith, kept .taken, kept .there)) in
+    let filled = reads .read-behind .result in
+    let brought = reads .read-behind .ensures in
+    let front = brought .front ∙ ap (take left) (shifts .shift .ensures) ∙ moved-front left (d .at) (start .args .input .now) (omega (arith, kept .taken, kept .there)) in
     record {
-      kept = record { taken = omega arith; there = search (needs, reads .read-behind .ensures .1) };
-      more = behind left (reads .read-behind .result) _;
-      bytes = read-more left (reads .read-behind .result) _ _ (reads .read-behind .ensures .0) front;
-      ends = read-none left (reads .read-behind .result) _ _ (reads .read-behind .ensures .0) (part-long d (start .args .input .now) kept);
+      kept = record { taken = omega arith; there = search (needs, brought .there) };
+      more = behind left (filled .end) _;
+      bytes = read-more left (filled .end) _ _ (brought .behind) front;
+      ends = λ off fine. (read-none left (filled .end) _ (brought .ends off), broken-end _ _ _ off fine ∙ ap (ltb 0) (sym (part-long d (start .args .input .now) kept)));
+      fails = λ f. broken-never (filled .going) (filled .failed) _ f;
       tally = refl;
       records = refl;
     }

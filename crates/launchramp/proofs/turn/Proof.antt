@@ -1,6 +1,6 @@
 -- `launchramp::turn` meets its contract: printing takes no more than the buffer holds. Assumes nothing.
 use native.Mathlib.Omega.{arith}
-use mathlib.Core.Path.{refl}
+use mathlib.Core.Path.{refl, sym}
 use mathlib.Core.Bool.{true, false, true≢false}
 use borrow.Author.Needs.{needs}
 use Rattle.launchramp.specs.Held.{at-broken}
@@ -64,7 +64,7 @@ same-length-5 c = search needs
 returns : tie.Need-returns
 returns c =
     let called = c .before .before .before .before .before .before .before .before .before .before .before .before .before in
-    turned-still _ _ _ _ _ _ _ _ (called .print .result) (start called .pre) (called .print .ensures .0) (called .print .ensures .1) false false true (c .ended .result) (c .ended .ensures) (λ off fine. absurd (true≢false fine))
+    turned-still _ _ _ _ _ _ _ _ (called .print .result) (start called .pre) (called .print .ensures .0) (called .print .ensures .1) false false true (c .ended .result) (c .ended .ensures) (λ off fine. absurd (true≢false fine)) (λ f. refl)
 
 enum-told : tie.Need-enum-told
 enum-told c = search needs
@@ -101,7 +101,7 @@ same-length-10 c = search needs
 returns-2 : tie.Need-returns-2
 returns-2 c =
     let called = c .before .before .before .before .before .before .before .before .before .before .before .before .before .before in
-    turned-still _ _ _ _ _ _ _ _ (called .print .result) (start called .pre) (called .print .ensures .0) (called .print .ensures .1) true false false _ refl (λ off fine. absurd (true≢false off))
+    turned-still _ _ _ _ _ _ _ _ (called .print .result) (start called .pre) (called .print .ensures .0) (called .print .ensures .1) true false false _ refl (λ off fine. absurd (true≢false off)) (λ f. refl)
 
 same-length-11 : tie.Need-same-length-11
 same-length-11 c = search needs
@@ -141,7 +141,7 @@ same-length-20 c = search needs
 returns-4 : tie.Need-returns-4
 returns-4 c =
     let called = c .before .before .before .before .before .before .before .before .before .before .before .before .before .before .before in
-    turned-still _ _ _ _ _ _ _ _ (called .print .result) (start called .pre) (called .print .ensures .0) (called .print .ensures .1) false true false (c .ended2 .result) (c .ended2 .ensures) (λ off fine. at-broken (c .before .enum-told3 .given .1) refl)
+    turned-still _ _ _ _ _ _ _ _ (called .print .result) (start called .pre) (called .print .ensures .0) (called .print .ensures .1) false true false (c .ended2 .result) (c .ended2 .ensures) (λ off fine. at-broken (c .before .enum-told3 .given .1) refl) (λ f. absurd (true≢false (sym f)))
 
 pub turn-spec : {M : Type 1} → statement M
 turn-spec =
