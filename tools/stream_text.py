@@ -45,10 +45,10 @@ One record a line; numbers and words are separated by blanks:
     report 703 grid 3 1                 x y again, as the receivers' kind of record
     bytes 4F 47 09                      any bytes in hex, for a broken record
 
-Whole numbers have {MOST_DIGITS} digits at most, with + or - before them. A value in metres becomes the nearest double: 3, +3, 3., .5 and 1e3 are
-taken, with {MOST_DIGITS_OF_METRES} digits at most, as are inf and nan, with a sign or without; 0x with 16 hex digits gives a double's bits.
-`#` starts a comment, empty lines are skipped, and a line that ends in a backslash goes on in the next. A line, with those that it goes
-on in, has {LONGEST_LINE} bytes at most. The end of a file ends its last line.
+A whole number may have a sign, and has {MOST_DIGITS} digits at most. A value in metres becomes the nearest double: 3, +3, 3., .5 and 1e3 are
+taken, with {MOST_DIGITS_OF_METRES} digits at most, and so are inf and nan, with a sign or without; 0x with 16 hex digits gives a double's bits.
+`#` starts a comment, empty lines are skipped, and a line that ends in a backslash goes on in the next. The end of a file ends its last
+line. A line, together with those that it goes on in, has {LONGEST_LINE} bytes at most.
 """
 
 
