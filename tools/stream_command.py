@@ -5,17 +5,13 @@ system's calls: Python's own standard output would lose what a short write leave
 """
 import os
 import select
-import signal
 import sys
 from contextlib import suppress
 
-TOP = os.path.dirname(os.path.dirname(os.path.realpath(__file__)))
-sys.dont_write_bytecode = True
-sys.path.insert(0, os.path.join(TOP, "tools"))
-
 from stream_text import HELP, Unreadable, packed, unpacked
 
-DONE, UNREADABLE, USAGE, FAILED, INTERRUPTED = 0, 1, 2, 3, 130
+TOP = os.path.dirname(os.path.dirname(os.path.realpath(__file__)))
+DONE, UNREADABLE, USAGE, FAILED = 0, 1, 2, 3
 STDIN, STDOUT, STDERR = 0, 1, 2
 BLOCK = 2**16  # In bytes.
 
@@ -49,7 +45,6 @@ class Command:
 
     def run(self, words):
         """The status, after whatever is to be said on standard error."""
-        stop_at_interrupt(self.name)
         output = Output()
         try:
             self.obey(words, output)
@@ -109,18 +104,6 @@ def version():
             return opened.read().strip()
     except OSError as failed:
         raise unread(file, failed)
-
-
-def stop_at_interrupt(name):
-    """Ctrl-C ends the command wherever it is; a command that was started to ignore it goes on ignoring it."""
-
-    def stop(_signal, _frame):
-        with suppress(OSError):
-            os.write(STDERR, f"{name}: interrupted.\n".encode())
-        os._exit(INTERRUPTED)
-
-    if signal.getsignal(signal.SIGINT) is signal.default_int_handler:
-        signal.signal(signal.SIGINT, stop)
 
 
 # Reading
@@ -219,12 +202,8 @@ PACK_DOES = """\
 Packs readable lines into a record stream, written to standard output. At an unreadable line it stops, with a sentence that names the file
 and the line; the records of the lines before it have then been written.
 """
-UNPACK_DOES = "Writes a record stream as readable lines, to standard output. Any bytes are taken; pack makes the same stream of the lines.\n"
+UNPACK_DOES = "Writes a record stream as readable lines, to standard output. Any bytes are taken; pack makes the same of the lines.\n"
 COMMANDS = {
     "pack": Command("pack", PACK_DOES, "lines", pack_files),
     "unpack": Command("unpack", UNPACK_DOES, "a record stream", unpack_files),
 }
-
-
-if __name__ == "__main__":
-    sys.exit(COMMANDS[sys.argv[1]].run(sys.argv[2:]))

@@ -45,8 +45,8 @@ One record a line; numbers and words are separated by blanks:
     report 703 grid 3 1                 x y again, as the receivers' kind of record
     bytes 4F 47 09                      any bytes in hex, for a broken record
 
-A whole number may have a sign, and has {MOST_DIGITS} digits at most. A value in metres becomes the nearest double: 3, +3, 3., .5 and 1e3 are
-taken, with {MOST_DIGITS_OF_METRES} digits at most, and so are inf and nan, with a sign or without; 0x with 16 hex digits gives a double's bits.
+A whole number may have a sign, and has {MOST_DIGITS} digits at most. A value in metres becomes the nearest double: 3, +3, 3., .5 and 1e3
+are taken, with {MOST_DIGITS_OF_METRES} digits at most, and inf and nan, with a sign or without; 0x with 16 hex digits gives a double's bits.
 `#` starts a comment, empty lines are skipped, and a line that ends in a backslash goes on in the next. The end of a file ends its last
 line. A line, together with those that it goes on in, has {LONGEST_LINE} bytes at most.
 """
@@ -72,34 +72,36 @@ class Cut(Exception):
 # Reports, many at once
 
 
-# A value of a report: as its plainest word in a line, which fits its field whatever the digits; as bytes of a record; its letter in struct's
-# layouts; its number by its word. A double's last two bytes hold its exponent, which is all ones in infinities and NaNs.
+# A value of a report: as its plainest word in a line, which fits its field whatever the digits; as bytes of a record; its letter in
+# struct's layouts; its number by its word. A double's last two bytes hold its exponent, which is all ones in infinities and NaNs.
 MILLIMETRES = (rb"-?[01]?[0-9]{1,9}", rb".{4}", "i", int)
 FINITE_METRES = (rb"-?[0-9]{1,9}(?:\.[0-9]{1,17})?(?:e[+-]?[0-9]{1,2})?", rb".{6}(?:[^\xF0-\xFF].|.[^\x7F\xFF])", "d", float)
 NUMBERED = rb"report {1,9}[0-3]?[0-9]{1,9}"
+LONGEST_RUN = 4096
 
 
 class Reports:
-    """Reports of one form. They are most of a long stream, so a run of plain ones is converted at once; all else goes record by record."""
+    """Reports of one form. They are most of a long stream, so a run of plain ones is converted at once; all else goes one by one."""
 
-    def __init__(self, kind, words, bytes_said, value, count):
-        """The words between number and values, with the bytes that say the same in a record; then a kind of value, and how many there are."""
-        in_line, in_record, code, self.convert = value
-        head, values = MARK + bytes([kind]), code * count
-        self.lines = re.compile(rb"(?:%b {0,9}\r?\n)+" % rb" {1,9}".join([NUMBERED, *map(str.encode, words), *[in_line] * count]))
-        self.records = re.compile(rb"(?:%b.{4}%b%b)+" % (head, bytes_said, in_record * count), re.DOTALL)
+    def __init__(self, kind, words, same, value, count):
+        """The words between number and values, and the bytes that say the same in a record; then a sort of value, and how many."""
+        in_line, in_record, letter, self.convert = value
+        head, values = MARK + bytes([kind]), letter * count
+        line = rb" {1,9}".join([NUMBERED, *map(str.encode, words), *[in_line] * count])
+        self.lines = re.compile(rb"(?:%b {0,9}\r?\n){1,%d}" % (line, LONGEST_RUN))
+        self.records = re.compile(rb"(?:%b.{4}%b%b){1,%d}" % (head, same, in_record * count, LONGEST_RUN), re.DOTALL)
         self.width = 2 + len(words) + count
         self.columns = range(2 + len(words), self.width)
-        self.same = [repeat(head), repeat(bytes_said)]
-        self.pack_one = struct.Struct(f"<3sI{len(bytes_said)}s{values}").pack
-        self.unpack_each = struct.Struct(f"<3xI{len(bytes_said)}x{values}").iter_unpack
+        self.heads, self.sames = repeat(head), repeat(same)
+        self.pack_one = struct.Struct(f"<3sI{len(same)}s{values}").pack
+        self.unpack_each = struct.Struct(f"<3xI{len(same)}x{values}").iter_unpack
         self.line = " ".join(["report %r", *words, *["%r"] * count]) + "\n"
 
     def pack(self, lines):
-        head, bytes_said = self.same
         words = lines.split()
+        numbers = map(int, words[1 :: self.width])
         values = (map(self.convert, words[column :: self.width]) for column in self.columns)
-        return b"".join(map(self.pack_one, head, map(int, words[1 :: self.width]), bytes_said, *values))
+        return b"".join(map(self.pack_one, self.heads, numbers, self.sames, *values))
 
     def unpack(self, records):
         return "".join(map(self.line.__mod__, self.unpack_each(records)))
@@ -114,7 +116,7 @@ FORMS = (
 
 
 def pack_run(text, place):
-    """The records of the plain report lines of one form from this place on, and the place after them; nothing, if there is none."""
+    """The records of the plain report lines of one form from this place on, and the place after them; nothing, if there are none."""
     for form in FORMS:
         if run := form.lines.match(text, place):
             return form.pack(run[0]), run.end()
