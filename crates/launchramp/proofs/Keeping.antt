@@ -10,13 +10,13 @@ use lib.ListN.{length, take, drop, length-drop}
 use lib.Seq.{take-at, take-add, drop-at, drop-drop, length-take-le, paste}
 use Rattle.districts.specs.Lent.{Lists}
 use Rattle.stream.specs.declared.Page.{Page}
-use Rattle.stream.specs.declared.Stop.the-variants.{More}
+use Rattle.stream.specs.declared.Stop.{Stop}
 use Rattle.stream.specs.Desks.{Desk, deskOf}
 use Rattle.stream.specs.Printing.{Printed}
 use Rattle.stream.specs.Pieces.{Standing, Piece, Part, Reads, lastOf}
 use Rattle.stream.proofs.Pages.{printed-few}
 use Rattle.launchramp.specs.declared.Reading.{Reading}
-use Rattle.launchramp.specs.Held.{piece, waiting, Kept, Refilled, Held, Closed, at-end, Stands, Turned, starting, Went}
+use Rattle.launchramp.specs.Held.{piece, waiting, Kept, Held, Closed, Onward, Stands, Turned, starting, Went}
 
 -- what stands in front stays
 pub front-stays : (n : ℕ) (xs ys : List ℕ) → n ≤ length xs → take n (take n xs ++ ys) ≡ take n xs
@@ -46,6 +46,25 @@ broken-end going failed some off fine = λ i. not (off i || fine i) && some
 pub broken-never : (going failed some : Bool) → failed ≡ true → (not (going || failed) && some) ≡ false
 broken-never true failed some e = refl
 broken-never false failed some e = λ i. not (e i) && some
+
+-- ---- going on from where printing stopped
+
+-- with the bytes that wait
+pub onward-still : (stop : Stop) (d : Reading) (input : List ℕ) (going broken failed : Bool) (e : Reading)
+    → Kept d input → e ≡ record { tally = d .tally; records = d .records; at = d .at; end = d .end; going = going; broken = broken; failed = failed }
+    → (going ≡ false → failed ≡ false → Closed stop (waiting d input) [] broken) → (failed ≡ true → broken ≡ false) → Onward stop d e input input
+onward-still stop d input going broken failed e kept is closed fails = subst (λ r. Onward stop d r input input) (sym is) (record {
+  kept = record { taken = kept .taken; there = kept .there };
+  more = [];
+  bytes = sym (append-nil (waiting d input));
+  closed = closed;
+  fails = fails;
+  tally = refl;
+  records = refl;
+})
+
+pub onward-same : (stop : Stop) (d : Reading) (input : List ℕ) → Kept d input → d .going ≡ true → d .broken ≡ false → Onward stop d d input input
+onward-same stop d input kept on whole = onward-still stop d input (d .going) (d .broken) (d .failed) d kept refl (λ off fine. absurd (true≢false (sym on ∙ off))) (λ f. whole)
 
 -- ---- printing takes no more than there is
 
@@ -104,31 +123,34 @@ module _ (d : Reading) (input : List ℕ) (l m : Lists) (list list′ : List ℤ
   within = printed-within d input l (deskOf l (d .tally)) list to p m list′ to′ held printed
 
   -- the program behind what was printed
-  abbrev next : Bool → Bool → Bool → Reading
-  next going broken failed = record { tally = p .tally; records = p .records; at = d .at + p .at; end = d .end; going = going; broken = broken; failed = failed }
+  abbrev pub next : Reading
+  next = record { tally = p .tally; records = p .records; at = d .at + p .at; end = d .end; going = true; broken = false; failed = false }
 
-  -- e is that program with more bytes
-  turned : (e : Reading) (after more : List ℕ) → Kept e after → e .tally ≡ p .tally → e .records ≡ p .records → waiting e after ≡ drop (p .at) (waiting d input) ++ more
-      → (e .going ≡ false → e .failed ≡ false → Closed (p .stop) (drop (p .at) (waiting d input)) more (e .broken)) → (e .failed ≡ true → e .broken ≡ false) → Turned d e input after l m
-  turned e after more kept tally records bytes closed fails = record {
-    kept = kept;
-    form = printed .form;
-    records = omega (arith, within .records, records);
-    turns = λ s stood. (left s, one-piece s stood, record { lists = refl; tally = sym tally; records = sym records; since = more; bytes = bytes; closed = closed; fails = fails });
-  }
+  pub next-kept : Kept next input
+  next-kept = record { taken = within .at; there = held .kept .there }
 
-  waits : take (d .end - (d .at + p .at)) (drop (d .at + p .at) input) ≡ drop (p .at) (waiting d input)
+  waits : waiting next input ≡ drop (p .at) (waiting d input)
   waits = waits-on d input (p .at) (held .kept) (within .at)
 
-  pub turned-still : (going broken failed : Bool) (e : Reading) → e ≡ next going broken failed → (going ≡ false → failed ≡ false → Closed (p .stop) (drop (p .at) (waiting d input)) [] broken) → (failed ≡ true → broken ≡ false) → Turned d e input input l m
-  turned-still going broken failed e is closed fails =
-      subst (λ r. Turned d r input input l m) (sym is)
-      (turned (next going broken failed) input [] (record { taken = within .at; there = held .kept .there }) refl refl (waits ∙ sym (append-nil (drop (p .at) (waiting d input)))) closed fails)
-
-  pub turned-refilled : (going broken failed : Bool) (e : Reading) (after : List ℕ) → p .stop ≡ More → Refilled (next going broken failed) e input after → Turned d e input after l m
-  turned-refilled going broken failed e after stop r =
-      turned e after (r .more) (r .kept) (r .tally) (r .records) (r .bytes ∙ ap (λ w. w ++ r .more) waits)
-      (λ off fine. let none = r .ends off fine in at-end stop (none .0) (none .1 ∙ ap (λ w. ltb 0 (length w)) waits)) (r .fails)
+  pub turned : (e : Reading) (after : List ℕ) → Onward (p .stop) next e input after → Turned d e input after l m
+  turned e after o = record {
+    kept = o .kept;
+    form = printed .form;
+    records = omega (arith, within .records, o .records);
+    turns = λ s stood. (
+      left s,
+      one-piece s stood,
+      record {
+        lists = refl;
+        tally = sym (o .tally);
+        records = sym (o .records);
+        since = o .more;
+        bytes = o .bytes ∙ ap (λ w. w ++ o .more) waits;
+        closed = λ off fine. subst (λ w. Closed (p .stop) w (o .more) (e .broken)) waits (o .closed off fine);
+        fails = o .fails;
+      },
+    );
+  }
 
 -- ---- one piece after the other
 

@@ -15,7 +15,7 @@ use Rattle.stream.specs.Pieces.{Standing, Piece, Part, Reads, lastOf}
 use Rattle.launchramp.specs.declared.Reading.{Reading}
 use Rattle.launchramp.specs.declared.ports.Filled.{Filled}
 
--- how long the input's buffer is
+-- how long each of the two buffers is
 abbrev pub piece : ℕ
 piece = 65_536
 
@@ -35,17 +35,6 @@ pub record Brought (n : ℕ) (r : Filled) (before after : List ℕ) : Type 0 whe
   pub front : take n after ≡ take n before
   pub ends : r .going ≡ false → r .end ≡ n
 
--- the bytes that were not taken wait in front of others; at the end of the input none have come, and what is left is a cut record; where the
--- input could not be read nothing is broken
-pub record Refilled (d e : Reading) (before after : List ℕ) : Type 0 where
-  pub kept : Kept e after
-  pub more : List ℕ
-  pub bytes : waiting e after ≡ waiting d before ++ more
-  pub ends : e .going ≡ false → e .failed ≡ false → (more ≡ []) × (e .broken ≡ ltb 0 (length (waiting d before)))
-  pub fails : e .failed ≡ true → e .broken ≡ false
-  pub tally : e .tally ≡ d .tally
-  pub records : e .records ≡ d .records
-
 -- a buffer of its length, a well-formed register, and room in the number of records for those of another piece
 pub record Held (d : Reading) (input : List ℕ) (l : Lists) : Type 0 where
   pub kept : Kept d input
@@ -53,10 +42,22 @@ pub record Held (d : Reading) (input : List ℕ) (l : Lists) : Type 0 where
   pub form : formed l ≡ true
   pub countable : d .records ≤ 4_611_686_018_427_387_904
 
--- why a program reads no further, if nothing failed: the input is at its end, and broken tells whether a cut record is left, or a broken record stands in front
+-- why a program reads no further, if nothing failed: the input is at its end, and broken tells whether a cut record is left, or a broken
+-- record stands in front
 pub data Closed (stop : Stop) (held since : List ℕ) (broken : Bool) : Type 0 where
   at-end : stop ≡ More → since ≡ [] → broken ≡ ltb 0 (length held) → Closed stop held since broken
   at-broken : stop ≡ Broken → broken ≡ true → Closed stop held since broken
+
+-- how a program goes on from where printing stopped: the bytes that were not taken wait in front of others, and if it does not go on it is
+-- closed, or a read or a write failed; then nothing is broken
+pub record Onward (stop : Stop) (d e : Reading) (before after : List ℕ) : Type 0 where
+  pub kept : Kept e after
+  pub more : List ℕ
+  pub bytes : waiting e after ≡ waiting d before ++ more
+  pub closed : e .going ≡ false → e .failed ≡ false → Closed stop (waiting d before) more (e .broken)
+  pub fails : e .failed ≡ true → e .broken ≡ false
+  pub tally : e .tally ≡ d .tally
+  pub records : e .records ≡ d .records
 
 -- the program stands where a piece left it, and has read some bytes since
 pub record Stands (s : Standing) (d : Reading) (input : List ℕ) (l : Lists) : Type 0 where

@@ -11,20 +11,21 @@ use tally::Tally;
 use wording::Kind;
 use wording::Said;
 ghost use mathlib.Core.Path.{_≡_};
-ghost use mathlib.Core.Bool.{false, not};
+ghost use mathlib.Core.Bool.{true, false, not};
 ghost use Prim.Native.Nat.{_+_, _≤_};
 ghost use lib.ListN.{length, take, drop};
 ghost use lib.Seq.{paste};
 ghost use Rattle.history.specs.Turns.{Fresh};
 ghost use Rattle.wording.specs.Lines.{room};
+ghost use Rattle.stream.specs.declared.Stop.the-variants.{More};
 ghost use Rattle.stream.specs.Desks.{brokenLine, lastLine};
-ghost use Rattle.launchramp.specs.Held.{piece, Kept, Refilled, Held, Turned, Went, lastText, Opens};
+ghost use Rattle.launchramp.specs.Held.{piece, Kept, Onward, Held, Turned, Went, lastText, Opens};
 
 // How long the two buffers are: several times the longest record.
 const PIECE: usize = 65_536;
 
-// What was read so far. The bytes from `at` to `end` of the buffer are not taken yet; `failed` once a read or a write
-// has failed, and that is said.
+// What was read so far. The bytes from `at` to `end` of the buffer are not taken yet; `failed` once a read or a write has failed, and that was
+// said.
 pub struct Reading {
     pub tally: Tally,
     pub records: usize,
@@ -50,7 +51,7 @@ fn shift(input: &mut [u8], at: usize, n: usize)
 // Keeps what is left in the buffer, and reads more behind it; at the end of the input what is left is a cut record.
 fn refilled(input: &mut [u8], d: Reading) -> Reading
     requires { ⌜ Kept d (now input) ⌝ }
-    ensures { λ r. ⌜ Refilled d r (now (input .entry)) (now (input .exit)) ⌝ }
+    ensures { λ r. ⌜ Onward More d r (now (input .entry)) (now (input .exit)) ⌝ }
 {
     let at = d.at;
     let left = d.end - at;
@@ -84,7 +85,22 @@ fn ended(d: Reading, broken: bool) -> Reading
     }
 }
 
-// Prints the records in the buffer, and reads on where another may follow.
+// Writes what was printed, and reads on where another record may follow.
+fn follow(input: &mut [u8], printed: &[u8], d: Reading, stop: Stop) -> Reading
+    requires { ⌜ Kept d (now input) × (d .going ≡ true) × (d .broken ≡ false) ⌝ }
+    ensures { λ r. ⌜ Onward stop d r (now (input .entry)) (now (input .exit)) ⌝ }
+{
+    if !written(printed) {
+        return ended(d, false);
+    }
+    match stop {
+        Stop::Full => d,
+        Stop::More => refilled(input, d),
+        Stop::Broken => ended(d, true),
+    }
+}
+
+// Prints the records in the buffer, and reads on.
 fn turn(
     input: &mut [u8],
     output: &mut [u8],
@@ -121,14 +137,7 @@ fn turn(
         broken: false,
         failed: false,
     };
-    if !written(&output[0..filled]) {
-        return ended(next, false);
-    }
-    match stop {
-        Stop::Full => next,
-        Stop::More => refilled(input, next),
-        Stop::Broken => ended(next, true),
-    }
+    follow(input, &output[0..filled], next, stop)
 }
 
 fn read_all(
@@ -178,7 +187,7 @@ fn end_line(to: &mut [u8], records: usize, t: Tally) -> usize
     wording::end_line(to, records, ones, t.border, t.none, t.several)
 }
 
-// The lines behind those of the records, and how long they are.
+// The lines behind those of the records, and how long they are: none where a read or a write failed.
 fn last_lines(to: &mut [u8], d: Reading) -> usize
     requires { ⌜ length (now to) ≡ piece ⌝ }
     ensures { λ r. ⌜ Opens r (lastText d) (now (to .exit)) ⌝ }

@@ -9,8 +9,8 @@ ghost use Prim.Native.Nat.{_≤_};
 ghost use lib.ListN.{length};
 ghost use Rattle.launchramp.specs.Held.{Brought};
 
-// A proved loop has to end, and nothing says that what it waits for comes: the tries are counted down from a number that no run uses up. At a
-// hundredth of a second each they last for 22,000 years.
+// A proved loop has to end, and nothing says that the input does, or that what a call waits for comes: tries and turns are counted down from a
+// number that no run uses up. It is 22,000 years of waits, or 64 tebibytes that come byte by byte.
 pub const TRIES: usize = 70_368_744_177_664;
 
 // In nanoseconds: a hundredth of a second.

@@ -5,6 +5,7 @@ use mathlib.Core.Path.{refl, sym, ap, _∙_}
 use lib.Dec.{ltb}
 use lib.ListN.{take}
 use borrow.Author.Needs.{needs}
+use Rattle.launchramp.specs.Held.{at-end}
 use Rattle.launchramp.proofs.Keeping.{behind, moved-front, read-more, read-none, broken-end, broken-never, part-long}
 use Rattle.launchramp.proofs.refilled.Statement.{statement}
 use Rattle.launchramp.proofs.refilled.Tie as tie
@@ -36,7 +37,7 @@ returns c =
       kept = record { taken = omega arith; there = search (needs, brought .there) };
       more = behind left (filled .end) _;
       bytes = read-more left (filled .end) _ _ (brought .behind) front;
-      ends = λ off fine. (read-none left (filled .end) _ (brought .ends off), broken-end _ _ _ off fine ∙ ap (ltb 0) (sym (part-long d (start .args .input .now) kept)));
+      closed = λ off fine. at-end refl (read-none left (filled .end) _ (brought .ends off)) (broken-end _ _ _ off fine ∙ ap (ltb 0) (sym (part-long d (start .args .input .now) kept)));
       fails = λ f. broken-never (filled .going) (filled .failed) _ f;
       tally = refl;
       records = refl;
