@@ -25,6 +25,7 @@ use Rattle.districts.specs.Counts.{sumTo}
 use Rattle.districts.specs.Lent.{beginning}
 use Rattle.districts.specs.Register.{Slot, unused, ring, Register, slot, inUse}
 use Rattle.districts.specs.Answers.{report, one}
+use Rattle.districts.proofs.Sums.{sum-zero}
 use Rattle.districts.proofs.Counting.{term-most}
 use Rattle.refusals.specs.Verdicts.{accept, verdict}
 use Rattle.register.specs.Sorting.{rests, winds, ofSlot, onBorder, windsAbout, sorted, belongsTo, assigned}
@@ -62,11 +63,6 @@ pub sum-front : (n : ℕ) (f : ℕ → ℕ) → sumTo (suc n) f ≡ f 0 + sumTo 
 unfolding sumTo
 sum-front zero f = omega arith
 sum-front (suc n) f = let front = sum-front n f in omega (arith, front)
-
-pub no-terms : (n : ℕ) (f : ℕ → ℕ) → ((k : ℕ) → k < n → f k ≡ 0) → sumTo n f ≡ 0
-unfolding sumTo
-no-terms zero f none = refl
-no-terms (suc n) f none = let before = no-terms n f (λ k h. none k (omega arith)) in let last = none n (omega arith) in omega (arith, before, last)
 
 -- two different terms of 1 make a sum of 2 or more
 two-terms : (n : ℕ) (f : ℕ → ℕ) (i j : ℕ) → i < j → j < n → f i ≡ 1 → f j ≡ 1 → 2 ≤ sumTo n f
@@ -172,7 +168,7 @@ module _ (g : Register) (r : ℕ) (x y u : ℤ) (full : length (g .districts) �
   below = elim (decLt (lowest about 64 0) 64) [
     | yes less ↦ less
     | no more ↦
-        let none = no-terms 64 (λ d. count (about d)) (λ k h. ap count (lowest-over about 64 (omega (arith, more)) k h)) in
+        let none = sum-zero (λ d. count (about d)) 64 (λ k h. ap count (lowest-over about 64 (omega (arith, more)) k h)) in
         absurd (let f : ⊥ = omega (arith, none, how-many) in f)
   ]
 

@@ -17,7 +17,7 @@ use Rattle.room.proofs.Forms as Forms
 use Rattle.room.proofs.Forms.{Sound}
 use Rattle.history.specs.Histories.{empty}
 use Rattle.history.specs.Turns.{Fresh}
-use Rattle.history.proofs.Alone.{no-terms}
+use Rattle.districts.proofs.Sums.{sum-zero}
 
 abbrev zeros : List ℕ
 zeros = listTo 129 (λ k. 0)
@@ -29,7 +29,7 @@ zero-at k = elim (decLt k 129) [
 ]
 
 none : total zeros ≡ 0
-none = no-terms 64 (size zeros) (λ d h. zero-at (65 + d))
+none = sum-zero (size zeros) 64 (λ d h. zero-at (65 + d))
 
 facts : (outline store : List ℤ) → length outline ≡ 4096 → length store ≡ 4096 → Sound outline store zeros
 facts outline store e f = record {

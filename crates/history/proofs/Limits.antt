@@ -18,7 +18,7 @@ use Rattle.districts.specs.Counts.{sumTo}
 use Rattle.districts.specs.Register.{Slot, unused, ring, Register, slot, inUse, verticesOf}
 use Rattle.districts.proofs.Counting.{term-most}
 use Rattle.districts.proofs.Meaning.{list-at, list-past, list-long}
-use Rattle.districts.proofs.Sums.{sum-same}
+use Rattle.districts.proofs.Sums.{sum-same, sum-zero}
 use Rattle.refusals.specs.Verdicts.{accept}
 use Rattle.refusals.proofs.Verdicts.{accepted}
 use Rattle.register.specs.Founding.{founded}
@@ -38,7 +38,7 @@ use Rattle.history.specs.Limits.{Allowed, Within}
 use Rattle.history.proofs.Every.{every}
 use Rattle.judging.proofs.Told.{used-below, split-told, merge-told}
 use Rattle.history.proofs.Balanced.{new-unused}
-use Rattle.history.proofs.Alone.{sum-front, no-terms}
+use Rattle.history.proofs.Alone.{sum-front}
 
 -- how many vertices a slot has
 abbrev many : Slot → ℕ
@@ -136,7 +136,7 @@ empty-within = record {
   full = list-long 64 (λ d. unused);
   outline = tt;
   rings = λ d. subst Allowed (sym (none d)) tt;
-  most = let all = no-terms 64 (λ d. many (slot empty d)) (λ d h. ap many (none d)) in omega (arith, all);
+  most = let all = sum-zero (λ d. many (slot empty d)) 64 (λ d h. ap many (none d)) in omega (arith, all);
   beside = λ e d. none d;
 }
   where
@@ -169,7 +169,7 @@ founded-within xs f = record {
   most =
       let all = sum-same (λ d. many (slot (founded xs) d)) (λ d. many (only d)) 64 (λ d h. ap many (list-at 64 only unused d h)) in
       let front = sum-front 63 (λ d. many (only d)) in
-      let none = no-terms 63 (λ d. many (only (suc d))) (λ d h. ap many (later d)) in
+      let none = sum-zero (λ d. many (only (suc d))) 63 (λ d h. ap many (later d)) in
       omega (arith, all, front, none, allowed .1);
   beside = λ none. let clash : _≡_ {A = ℕ} 1 0 = ap (λ b. pick b 1 0) none in absurd (let f : ⊥ = omega arith in f);
 }
