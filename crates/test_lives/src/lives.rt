@@ -18,6 +18,9 @@ const MORE: usize = 8;
 
 const FEWER: usize = 2;
 
+// How many numbers a report can have.
+const REPORT_NUMBERS: usize = 4_294_967_296;
+
 // What registers are made of, and paths, short or long; how many steps each lives.
 pub struct Life {
     pub what: Kind,
@@ -45,7 +48,7 @@ fn report(
     requires { ⌜ length (now runs) ≡ 129 ⌝ }
     requires { ⌜ length (now rows) ≡ allRows ⌝ }
 {
-    let number = draw(seed, 4_294_967_296) as u32;
+    let number = draw(seed, REPORT_NUMBERS) as u32;
     let sent = test_cases::position(case.x, case.y, seed);
     score.with(perform(
         outline,
