@@ -2,11 +2,14 @@
 use changes::Changed;
 use districts::Assigned;
 use districts::Class;
+use fixes::Placed;
+use refusals::Refusal;
 use register::Founded;
 use ring::Located;
 use ring::Parity;
 use test_rows::Belongs;
 use test_rows::Told;
+use test_second::Length;
 use test_second::Where;
 
 pub const VERTEX: usize = 0;
@@ -34,7 +37,10 @@ pub const NONE: usize = 10;
 
 pub const SEVERAL: usize = 11;
 
-pub const REFUSED: usize = 12;
+// Metres as millimetres of the grid.
+pub const PLACED: usize = 12;
+
+pub const REFUSED: usize = 13;
 
 // Direction and parity of a winding number.
 pub const EVEN: usize = 0;
@@ -45,8 +51,8 @@ pub const CLOCKWISE_EVEN: usize = 2;
 
 pub const CLOCKWISE_ODD: usize = 3;
 
-// What was answered; the index, the winding number's size, the district's number or the refusal's; how many districts, for SEVERAL, or
-// direction and parity, off a ring; and the report's number, for a report that is not refused.
+// What was answered; the index, the winding number's size, the district's number, the refusal's or the size in millimetres; how many
+// districts, for SEVERAL, direction and parity, off a ring, or 1 for millimetres below 0; and the report's number, for a report that is not refused.
 pub struct Answer {
     pub what: usize,
     pub number: usize,
@@ -184,4 +190,28 @@ fn placed(b: Belongs) -> Answer {
 // The rows keep no reports' numbers, so the one that was asked about is added.
 pub fn belongs(b: Belongs, report: u32) -> Answer {
     placed(b).of_report(report)
+}
+
+fn in_millimetres(millimetres: i32) -> Answer {
+    let below = if millimetres < 0 { 1 } else { 0 };
+    Answer::of(PLACED, test_second::size(millimetres) as usize).with(below)
+}
+
+// One value of a fix, both of whose values are the same.
+pub fn by_fixes(p: Placed) -> Answer {
+    match p {
+        Placed::OnGrid(x, _) => in_millimetres(x),
+        Placed::BeyondGrid => Answer::of(REFUSED, refusals::number(Refusal::BeyondGrid)),
+        Placed::NotFinite => Answer::of(REFUSED, refusals::number(Refusal::NotFinite)),
+    }
+}
+
+pub fn by_length(l: Length) -> Answer {
+    if !l.number {
+        return Answer::of(REFUSED, refusals::number(Refusal::NotFinite));
+    }
+    if l.far {
+        return Answer::of(REFUSED, refusals::number(Refusal::BeyondGrid));
+    }
+    in_millimetres(l.millimetres)
 }

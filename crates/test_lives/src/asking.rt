@@ -20,6 +20,18 @@ pub fn located(list: &[i32], x: i32, y: i32) -> Both {
     }
 }
 
+// A value in metres as millimetres of the grid, by itself: in a report one just beyond the grid is refused whoever let it pass.
+pub fn converted(metres: f64) -> Both {
+    Both {
+        library: answer::by_fixes(fixes::millimetres(Fix {
+            easting: metres,
+            northing: metres,
+        })),
+        second: answer::by_length(test_second::millimetres(metres)),
+        rings: true,
+    }
+}
+
 // The position as the library takes it.
 fn position(sent: Sent) -> Position {
     match sent {

@@ -7,6 +7,7 @@ mod compare;
 mod lives;
 mod score;
 
+pub use asking::converted;
 pub use asking::located;
 pub use asking::perform;
 pub use lives::Life;

@@ -4,7 +4,7 @@ use crate::answer::REFUSED;
 use test_cases::chance::mixed;
 
 // Every kind of answer, and every refusal by its number.
-pub const KINDS: usize = 32;
+pub const KINDS: usize = 33;
 
 pub struct Score {
     pub asked: usize,

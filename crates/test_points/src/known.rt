@@ -236,6 +236,34 @@ pub fn all() -> Score {
     score
 }
 
+// At the grid's limit, beyond it by a millimetre and by a little less than half of one; and two halves.
+const VALUES: usize = 8;
+
+const METRES: [f64; VALUES] = [
+    1000000.0,
+    -1000000.0,
+    1000000.001,
+    -1000000.001,
+    1000000.0004,
+    1000000.0005,
+    0.0625,
+    0.1875,
+];
+
+pub fn lengths(start: Score) -> Score {
+    let mut score = start;
+    let mut k = 0;
+    while k < VALUES {
+        let both = test_lives::converted(METRES[k]);
+        say::counted(b"metres, value ", k);
+        say::text(b": ");
+        said::both(both);
+        score = score.with(both);
+        k += 1;
+    }
+    score
+}
+
 // The longest ring, and one vertex more.
 pub fn longest(score: Score) -> Score {
     let p = Known {

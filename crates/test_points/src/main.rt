@@ -136,7 +136,7 @@ const LIVES: [Lives; SORTS] = [
 
 fn main() {
     let mut seed = SEED;
-    let points = known::longest(known::all());
+    let points = known::lengths(known::longest(known::all()));
     let made = made_rings(points, &mut seed);
     let all = made_lives(edits::all(made), &mut seed);
     say::counted(b"asked ", all.asked);

@@ -27,6 +27,14 @@ fn several(a: Answer) {
     counted(b" ", a.more);
 }
 
+fn placed(a: Answer) {
+    if a.more == 0 {
+        counted(b"millimetre ", a.number);
+    } else {
+        counted(b"millimetre -", a.number);
+    }
+}
+
 fn told(a: Answer) {
     let what = a.what;
     match what {
@@ -37,6 +45,7 @@ fn told(a: Answer) {
         answer::BORDER => counted(b"border ", a.number),
         answer::ONE => counted(b"one ", a.number),
         answer::NONE => text(b"none"),
+        answer::PLACED => placed(a),
         answer::SEVERAL => several(a),
         answer::REFUSED => counted(b"refused ", a.number),
         _ => off(a),
@@ -67,9 +76,10 @@ const NAMES: [[u8; 14]; answer::REFUSED] = [
     *b", one         ",
     *b", none        ",
     *b", several     ",
+    *b", placed      ",
 ];
 
-const LENGTHS: [usize; answer::REFUSED] = [9, 7, 9, 11, 14, 10, 9, 9, 9, 6, 7, 10];
+const LENGTHS: [usize; answer::REFUSED] = [9, 7, 9, 11, 14, 10, 9, 9, 9, 6, 7, 10, 9];
 
 fn named(name: &[u8; 14], m: usize, n: usize) {
     say::first(name, m);
