@@ -1,4 +1,4 @@
-/* What plain.h promises. Calls that documents 01 and 02 name follow their order of refusals. */
+/* What plain.h promises. The calls follow the order of refusals of docs/RULES.md. */
 #include "plain.h"
 
 #include <string.h>

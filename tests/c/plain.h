@@ -12,7 +12,7 @@
 #define PLAIN_MOST_VERTICES 2048
 #define PLAIN_LIMIT 1000000000
 
-/* The refusals by the numbers of documents 01 and 02. */
+/* The refusals by their numbers (docs/RULES.md). */
 enum {
     NOT_WELL_FORMED = 1,
     NO_OUTLINE = 2,
