@@ -8,3 +8,4 @@ pub mod Marks
 pub mod Meaning
 pub mod Unique
 pub mod Lent
+pub mod Begun

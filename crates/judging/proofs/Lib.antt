@@ -2,4 +2,3 @@ pub mod Sums
 pub mod Judged
 pub mod Matched
 pub mod Told
-pub mod Begun

@@ -1,4 +1,4 @@
--- Refusals as the rules orders them: a table of tests, and the first that holds. Assumes nothing.
+-- Refusals as the rules order them: a table of tests, and the first that holds. Assumes nothing.
 use Prim.Native.Nat.{ℕ}
 use mathlib.Core.Bool.{Bool, true, false}
 use mathlib.Core.List.{List, [], _∷_}

@@ -1,4 +1,4 @@
--- docs/RULES.md, "Known points": the starred ones, a row each. That the definitions give these answers is one theorem, proofs/Known.antt. Assumes nothing.
+-- docs/RULES.md, "Known points": those of one ring, a row each. That the definitions give these answers is one theorem, proofs/Known.antt. Assumes nothing.
 use mathlib.Core.Bool.{true, false}
 use mathlib.Core.List.{List, [], _∷_, _++_}
 use lib.IntN.{ℤ, pos, negsuc}

@@ -6,7 +6,7 @@ use Rattle.districts.specs.Lent.{Lists}
 use Rattle.districts.proofs.Meaning.{slot-is}
 use Rattle.districts.proofs.Lent.{good-runs}
 use Rattle.judging.specs.Judging.{pairTests}
-use Rattle.judging.proofs.Begun.{begun-formed, begun-passed, begun-refused}
+use Rattle.districts.proofs.Begun.{begun-formed, begun-passed, begun-refused}
 use Rattle.judging.proofs.matching.merge.Statement.{statement}
 use Rattle.judging.proofs.matching.merge.Tie as tie
 

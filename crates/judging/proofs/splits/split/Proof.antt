@@ -4,7 +4,7 @@ use borrow.Author.Needs.{needs}
 use Rattle.refusals.specs.Verdicts.{verdict, verdictOf}
 use Rattle.districts.specs.Lent.{Lists, formed}
 use Rattle.room.proofs.Forms.{sound}
-use Rattle.judging.proofs.Begun.{begun-formed, begun-passed, begun-refused}
+use Rattle.districts.proofs.Begun.{begun-formed, begun-passed, begun-refused}
 use Rattle.judging.proofs.Judged.{tests-are}
 use Rattle.judging.proofs.splits.split.Statement.{statement}
 use Rattle.judging.proofs.splits.split.Tie as tie

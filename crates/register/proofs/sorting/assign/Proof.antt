@@ -3,9 +3,7 @@ use mathlib.Core.Path.{_≡_, sym, ap, _∙_}
 use mathlib.Core.Bool.{Bool, true}
 use mir.Facts.{toZ-ofZ}
 use borrow.Author.Needs.{needs}
-use borrow.Author.Tests.{not-false}
 use Rattle.refusals.specs.Verdicts.{accept, verdict, verdictOf}
-use Rattle.refusals.proofs.Verdicts.{accepted}
 use Rattle.ring.specs.Grid.{point}
 use Rattle.districts.specs.Register.{Register}
 use Rattle.districts.specs.Lists.{meaning}
@@ -13,6 +11,7 @@ use Rattle.districts.specs.WellFormed.{wellFormed}
 use Rattle.districts.specs.Answers.{report}
 use Rattle.districts.specs.Lent.{beginning}
 use Rattle.districts.proofs.Lent.{good-runs}
+use Rattle.districts.proofs.Begun.{begun-formed}
 use Rattle.register.specs.Sorting.{pointTests, given}
 use Rattle.register.proofs.Given.{answer-refused, answer-given, sorted-is}
 use Rattle.register.proofs.sorting.assign.Statement.{statement}
@@ -36,7 +35,10 @@ begun : (c : tie.After-enum-told) → let s = c .before .before .before .before 
 begun c = sym (c .before .before .usable .ensures) ∙ ap verdictOf (c .enum-told .given .1)
 
 good : (c : tie.After-enum-told) → formed (c .before .before .before .before) ≡ true
-good c = not-false _ (accepted 1 _ _ (begun c) .0)
+good c =
+    let used = c .before .before in
+    let a = used .before .before .args in
+    begun-formed (record { outline = a .outline .now; store = a .store .now; runs = a .runs .now }) (used .usable .result) (used .usable .ensures) (c .enum-told .given .1)
 
 place-requires : tie.Need-place-requires
 place-requires c κs =

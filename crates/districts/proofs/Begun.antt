@@ -1,4 +1,4 @@
--- What the two tests with which a judge begins tell of the lists. Assumes nothing.
+-- What `usable`, with whose two tests a call begins, tells of the lists and of the tests behind them. Assumes nothing.
 use Prim.Native.Nat.{ℕ}
 use mathlib.Core.Path.{_≡_, sym, ap, _∙_}
 use mathlib.Core.Bool.{true}
