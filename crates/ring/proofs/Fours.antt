@@ -1,7 +1,6 @@
 -- The quarter turns round a ring that does not hold R add up to a multiple of four, and the winding number is exactly a quarter of them. Assumes nothing.
-use Prim.Native.Nat.{ℕ, zero, suc, _+_, _/_, _%_, _≤_, _<_}
+use Prim.Native.Nat.{ℕ, _/_, _%_, _≤_, _<_}
 use native.Mathlib.Omega.{arith}
-use native.Mathlib.Decide.{ℕ-discrete}
 use mathlib.Core.Path.{_≡_, refl, sym, ap, _∙_}
 use mathlib.Core.Bool.{Bool, true, false, _||_}
 use mathlib.Core.List.{List}
@@ -9,38 +8,21 @@ use lib.Dec.{ltb, eqb}
 use lib.ListN.{length}
 use lib.IntN.{ℤ, pos, _*ℤ_}
 use borrow.Author.Tests.{ltb-false}
-use Rattle.exact.proofs.Fours.{rest, rest-lt, rest-add, quarter-exact}
 use Rattle.ring.specs.declared.Point.{Point}
 use Rattle.ring.specs.Grid.{point, beyond, someBeyond, vertices, noRing}
 use Rattle.ring.specs.Choices.{pick}
-use Rattle.ring.specs.Rings.{at, total, ringSum}
-use Rattle.ring.specs.Turns.{quadrant, quarterTurns, winding, oddly}
-use Rattle.ring.specs.Segment.{same}
+use Rattle.ring.specs.Rings.{ringSum}
+use Rattle.ring.specs.Turns.{quarterTurns, winding, oddly}
 use Rattle.ring.specs.Locate.{Place, vertex, edge, off, refused, lowest, atVertex, onEdge, choose, locatedOn, located}
-use Rattle.ring.proofs.Vertices.{at-end, length-at-least}
+use Rattle.ring.proofs.Vertices.{length-at-least}
 use Rattle.ring.proofs.Pick.{neither-left, neither-right}
-use Rattle.ring.proofs.Quadrants.{apart-away, turns-rest}
+use Rattle.ring.proofs.Crossings.{crossings-turns, crossings-winding}
 use Rattle.ring.proofs.Search.{lowest-over}
 
-module _ (P : List Point) (R : Point) (some : 0 < length P) (free : (i : ℕ) → i < length P → (atVertex P R i ≡ false) × (onEdge P R i ≡ false)) where
-  apart : (i : ℕ) → i ≤ length P → same R (at P i) ≡ false
-  apart i h = elim (ℕ-discrete i (length P)) [ yes last ↦ ap (λ (k : ℕ). same R (at P k)) last ∙ ap (same R) (at-end P some) ∙ free 0 some .0 | no other ↦ free i (omega arith) .0 ]
-
-  -- the edges so far lead from the first vertex's quadrant to that of the vertex reached, whole turns aside
-  leads : (k : ℕ) → k ≤ length P → (quadrant R (at P 0) + rest (total (quarterTurns R) (at P) k)) % 4 ≡ quadrant R (at P k)
-  unfolding total
-  leads zero h = omega (arith, apart-away R (at P 0) (apart 0 (omega arith)))
-  leads (suc k) h = omega (arith, leads k (omega arith), rest-add (total (quarterTurns R) (at P) k) (quarterTurns R (at P k) (at P (suc k))), turns-rest R (at P k) (at P (suc k)) (apart k (omega arith)) (apart (suc k) h) (free k h .1))
-
-  pub quarters-close : rest (ringSum (quarterTurns R) P) ≡ 0
-  unfolding ringSum
-  quarters-close =
-      let close : quadrant R (at P (length P)) ≡ quadrant R (at P 0) = ap (quadrant R) (at-end P some) in
-      omega (arith, leads (length P) (omega arith), apart-away R (at P 0) (apart 0 (omega arith)), rest-lt (ringSum (quarterTurns R) P))
-
-  pub winding-exact : pos 4 *ℤ winding P R ≡ ringSum (quarterTurns R) P
-  unfolding winding
-  winding-exact = quarter-exact (ringSum (quarterTurns R) P) quarters-close
+pub winding-exact : (P : List Point) (R : Point) (some : 0 < length P) (free : (i : ℕ) → i < length P → (atVertex P R i ≡ false) × (onEdge P R i ≡ false)) → pos 4 *ℤ winding P R ≡ ringSum (quarterTurns R) P
+winding-exact P R some free =
+    let off-edges : (i : ℕ) → i < length P → onEdge P R i ≡ false = λ i h. free i h .1 in
+    ap (λ (w : ℤ). pos 4 *ℤ w) (sym (crossings-winding P R some off-edges)) ∙ sym (crossings-turns P R some off-edges)
 
 -- ---- the same of an answer Off
 

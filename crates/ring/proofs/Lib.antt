@@ -2,12 +2,12 @@ pub mod Pick
 pub mod Vertices
 pub mod OnGrid
 pub mod Quadrants
-pub mod Ranks
-pub mod Table
 pub mod Search
 pub mod Sums
+pub mod Crossings
 pub mod Fours
+pub mod Walks
+pub mod Settled
 pub mod Segments
 pub mod Known
-pub mod Walks
 pub mod Unique

@@ -1,15 +1,23 @@
--- What the test of the coordinates tells: every vertex of a list that passes is a point of the grid. Assumes nothing.
+-- What the test of the coordinates tells: every vertex of a list that passes is a point of the grid; and the way from one such point to another. Assumes nothing.
 use Prim.Native.Nat.{ℕ, zero, suc, _%_, _≤_}
 use native.Mathlib.Omega.{arith}
-use mathlib.Core.Path.{_≡_, refl}
+use mathlib.Core.Path.{_≡_, refl, _∙_}
 use mathlib.Core.Bool.{false}
 use mathlib.Core.List.{List, [], _∷_}
-use lib.IntN.{ℤ, pos, negsuc, natAbs}
+use lib.IntN.{ℤ, pos, negsuc, natAbs, _-ℤ_, _*ℤ_}
 use lib.ListN.{length, getD}
+use mir.Syntax.{w32}
+use mir.Val.{toZ, ofZ}
+use mir.Facts.{toZ-ofZ}
 use borrow.Author.Tests.{ltb-false}
+use Rattle.exact.specs.declared.Arrow.{Arrow}
+use Rattle.exact.specs.Sign.{cross}
+use Rattle.exact.proofs.Bounds.{natAbs-sub, within-fits}
+use Rattle.ring.specs.declared.Point.{Point}
 use Rattle.ring.specs.Grid.{point, beyond, someBeyond, vertices}
 use Rattle.ring.specs.Rings.{at}
-use Rattle.ring.specs.Walk.{OnGrid}
+use Rattle.ring.specs.Turns.{determinant}
+use Rattle.ring.specs.Walk.{OnGrid, Way}
 use Rattle.ring.proofs.Pick.{neither-left, neither-right}
 use Rattle.ring.proofs.Vertices.{origin}
 
@@ -36,3 +44,26 @@ vertex-on-grid xs e i =
     let p = at (vertices xs) i in
     let within = vertex-within xs e (i % length (vertices xs)) in
     point-on-grid (p .x) (p .y) (within .0) (within .1)
+
+-- ---- the way from one point of the grid to another, as `exact` tells it
+
+-- a coordinate as a number of 32 bits holds it
+pub held : (z : ℤ) → natAbs z ≤ 1_000_000_000 → toZ w32 (ofZ w32 z) ≡ z
+held z h = toZ-ofZ (within-fits w32 z 1_000_000_000 h tt)
+
+pub way-between : (R P : Point) (a : Arrow) → OnGrid R → OnGrid P → (a .x ≡ toZ w32 (ofZ w32 (P .x)) -ℤ toZ w32 (ofZ w32 (R .x))) × (a .y ≡ toZ w32 (ofZ w32 (P .y)) -ℤ toZ w32 (ofZ w32 (R .y))) → Way R P a
+way-between R P a r p e =
+    let x : a .x ≡ P .x -ℤ R .x = e .0 ∙ (λ i. held (P .x) (p .across) i -ℤ held (R .x) (r .across) i) in
+    let y : a .y ≡ P .y -ℤ R .y = e .1 ∙ (λ i. held (P .y) (p .up) i -ℤ held (R .y) (r .up) i) in
+    record {
+      x = x;
+      y = y;
+      short = record {
+        across = rw x (omega (arith, natAbs-sub (P .x) (R .x), r .across, p .across));
+        up = rw y (omega (arith, natAbs-sub (P .y) (R .y), r .up, p .up));
+      };
+    }
+
+pub way-determinant : (R P Q : Point) (a b : Arrow) → Way R P a → Way R Q b → cross a b ≡ determinant R P Q
+unfolding determinant
+way-determinant R P Q a b p q i = p .x i *ℤ q .y i -ℤ q .x i *ℤ p .y i

@@ -1,6 +1,7 @@
--- The lowest index that passes a test: the steps a loop takes, and what an answer says. Assumes nothing.
+-- The lowest index that passes a test: what an answer says, a search that ends at the first hit, and one that goes on to the end. Assumes nothing.
 use Prim.Native.Nat.{ℕ, zero, suc, _+_, _≤_, _<_}
 use native.Mathlib.Omega.{arith}
+use native.Mathlib.Nat.{zero-add}
 use native.Mathlib.Decide.{ℕ-discrete}
 use mathlib.Core.Path.{_≡_, refl, sym, _∙_, subst}
 use mathlib.Core.Bool.{Bool, true, false, _&&_, true≢false}
@@ -8,21 +9,6 @@ use lib.Dec.{leb}
 use borrow.Author.Tests.{leb-true, leb-false}
 use Rattle.ring.specs.Choices.{pick}
 use Rattle.ring.specs.Locate.{lowest}
-use Rattle.ring.proofs.Pick.{pick-true, pick-false}
-
--- ---- the steps: nothing left, a hit, a miss
-
-pub lowest-end : (p : ℕ → Bool) (i : ℕ) → lowest p zero i ≡ i
-unfolding lowest
-lowest-end p i = refl
-
-pub lowest-hit : (p : ℕ → Bool) (k i : ℕ) → p i ≡ true → lowest p (suc k) i ≡ i
-unfolding lowest
-lowest-hit p k i e = pick-true e i (lowest p k (suc i))
-
-pub lowest-miss : (p : ℕ → Bool) (k i : ℕ) → p i ≡ false → lowest p (suc k) i ≡ lowest p k (suc i)
-unfolding lowest
-lowest-miss p k i e = pick-false e i (lowest p k (suc i))
 
 -- ---- what an answer says
 
@@ -70,6 +56,24 @@ lowest-all p k i e = let l : Lowest p k i (i + k) = subst (Lowest p k i) e (lowe
 -- a search from 0 that came to the end found nothing
 pub lowest-over : (p : ℕ → Bool) (n : ℕ) → n ≤ lowest p n 0 → (j : ℕ) → j < n → p j ≡ false
 lowest-over p n h j g = lowest-all p n 0 (omega (arith, lowest-most p n 0)) j (omega arith) (omega arith)
+
+-- ---- a search that ends at the first hit
+
+-- none of the indices below i passes
+abbrev pub Unmet : (ℕ → Bool) → ℕ → Type 0
+Unmet p i = (j : ℕ) → j < i → p j ≡ false
+
+pub unmet-none : (p : ℕ → Bool) → Unmet p 0
+unmet-none p j h = absurd (let f : ⊥ = omega arith in f)
+
+pub unmet-more : (p : ℕ → Bool) (i : ℕ) → p i ≡ false → Unmet p i → Unmet p (i + 1)
+unmet-more p i e u j h = elim (ℕ-discrete i j) [ yes s ↦ subst (λ (m : ℕ). p m ≡ false) s e | no s ↦ u j (omega arith) ]
+
+pub unmet-hit : (p : ℕ → Bool) (n i : ℕ) → i < n → p i ≡ true → Unmet p i → i ≡ lowest p n 0
+unmet-hit p n i h e u = sym (lowest-first p n i u h e)
+
+pub unmet-all : (p : ℕ → Bool) (n i : ℕ) → n ≤ i → Unmet p i → n ≡ lowest p n 0
+unmet-all p n i h u = sym (lowest-none p n 0 (λ j g l. u j (omega arith)) ∙ zero-add n)
 
 -- ---- a search that goes on to the end and notes the lowest hit
 

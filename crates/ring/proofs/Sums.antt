@@ -4,10 +4,11 @@ use native.Mathlib.Omega.{arith}
 use native.Mathlib.Nat.{add-zero, add-suc}
 use mathlib.Core.Path.{_≡_, refl, sym, ap, _∙_}
 use mathlib.Core.List.{List, [], _∷_, _++_, reverse, append-nil, reverse-cons}
-use lib.IntN.{ℤ, pos, negℤ, _+ℤ_, +ℤ-assoc, +ℤ-comm, +ℤ-idl, +ℤ-idr, negℤ-+ℤ}
+use lib.IntN.{ℤ, pos, negℤ, _+ℤ_, _-ℤ_, +ℤ-assoc, +ℤ-comm, +ℤ-idl, +ℤ-idr, +ℤ-invr, negℤ-+ℤ}
 use lib.Signed.{quotZ}
 use lib.ListN.{length, getD}
 use Rattle.exact.proofs.Fours.{quarter-neg}
+use Rattle.exact.proofs.Poly.{var, add, sub, identity}
 use Rattle.ring.specs.declared.Point.{Point}
 use Rattle.ring.specs.Rings.{at, Weight, Antisymmetric, total, ringSum}
 use Rattle.ring.specs.Turns.{quarterTurns, winding}
@@ -18,6 +19,13 @@ pub total-split : (f : Weight) (s : ℕ → Point) (j k : ℕ) → total f s (j 
 unfolding total
 total-split f s j zero = ap (total f s) (add-zero j) ∙ sym (+ℤ-idr (total f s j))
 total-split f s j (suc k) = ap (total f s) (add-suc j k) ∙ (λ i. total-split f s j k i +ℤ f (s (j + k)) (s (sym (add-suc j k) i))) ∙ +ℤ-assoc (total f s j) (total f (λ i. s (j + i)) k) (f (s (j + k)) (s (j + suc k)))
+
+-- where each edge weighs what a number of its first end is more than that of its second, only the ends of the sequence count
+pub total-falls : (f : Weight) (g : Point → ℤ) (s : ℕ → Point) (k : ℕ) → ((j : ℕ) → j < k → f (s j) (s (suc j)) ≡ g (s j) -ℤ g (s (suc j))) → total f s k ≡ g (s 0) -ℤ g (s k)
+unfolding total
+total-falls f g s zero h = sym (+ℤ-invr (g (s 0)))
+total-falls f g s (suc k) h = (λ i. total-falls f g s k (λ j l. h j (omega arith)) i +ℤ h k (omega arith) i)
+    ∙ identity (g (s 0) ∷ g (s k) ∷ g (s (suc k)) ∷ []) (add (sub (var 0) (var 1)) (sub (var 1) (var 2))) (sub (var 0) (var 2)) tt
 
 -- ---- a ring sum by recursion over its list, with no index
 

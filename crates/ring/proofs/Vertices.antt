@@ -48,6 +48,15 @@ length-at-least (x ∷ y ∷ xs) (suc i) h =
     let k : i < length (vertices xs) = length-at-least xs i (omega arith) in
     omega arith
 
+pub pair-within : (xs : List ℤ) (i : ℕ) → i < length (vertices xs) → i + i + 1 < length xs
+unfolding vertices
+pair-within [] i h = absurd (let f : ⊥ = omega arith in f)
+pair-within (x ∷ []) i h = absurd (let f : ⊥ = omega arith in f)
+pair-within (x ∷ y ∷ xs) zero h = omega arith
+pair-within (x ∷ y ∷ xs) (suc i) h =
+    let k : i + i + 1 < length xs = pair-within xs i (omega arith) in
+    omega arith
+
 -- the vertex at i as the code reads it
 pub vertex-at : (xs : List ℤ) (i : ℕ) → i + i + 1 < length xs → at (vertices xs) i ≡ point (getD xs (2 * i) (pos 0)) (getD xs (2 * i + 1) (pos 0))
 vertex-at xs i h =

@@ -2,7 +2,7 @@ pub mod Choices
 pub mod Grid
 pub mod Rings
 pub mod Turns
-pub mod Table
+pub mod Crossings
 pub mod Segment
 pub mod Locate
 pub mod Walk

@@ -1,30 +1,27 @@
--- What the functions of the walk round a ring ask and promise one another; no public promise cites it. Assumes nothing.
+-- What the functions that go round a ring ask and promise one another; no public promise cites it. Assumes nothing.
 use Prim.Native.Nat.{ℕ, _+_, _≤_, _<_}
 use mathlib.Core.Path.{_≡_}
-use mathlib.Core.Bool.{Bool, false, _&&_}
+use mathlib.Core.Bool.{true, false}
 use mathlib.Core.List.{List}
-use lib.Dec.{leb}
 use lib.ListN.{length}
-use lib.IntN.{ℤ, natAbs, _+ℤ_, _-ℤ_}
+use lib.IntN.{ℤ, pos, natAbs, _+ℤ_, _-ℤ_}
+use lib.Signed.{ltZ}
 use Rattle.exact.specs.declared.Arrow.{Arrow}
-use Rattle.exact.specs.Sign.{Short}
+use Rattle.exact.specs.Sign.{eqZ, Short, cross}
 use Rattle.ring.specs.declared.Point.{Point}
-use Rattle.ring.specs.declared.walk.Walk.{Walk}
-use Rattle.ring.specs.Grid.{someBeyond}
-use Rattle.ring.specs.Choices.{pick}
-use Rattle.ring.specs.Rings.{at}
-use Rattle.ring.specs.Turns.{quadrant}
+use Rattle.ring.specs.declared.counting.End.{End}
+use Rattle.ring.specs.declared.counting.Count.{Count}
+use Rattle.ring.specs.Grid.{someBeyond, vertices}
+use Rattle.ring.specs.Choices.{pick, count}
+use Rattle.ring.specs.Rings.{at, total}
+use Rattle.ring.specs.Turns.{winding}
+use Rattle.ring.specs.Crossings.{crossing, steps}
+use Rattle.ring.specs.Locate.{onEdge}
 
 -- a point of the grid, by the sizes of its coordinates
 pub record OnGrid (p : Point) : Type 0 where
   pub across : natAbs (p .x) ≤ 1_000_000_000
   pub up : natAbs (p .y) ≤ 1_000_000_000
-
--- the arrow from one point of the grid to another
-pub record Seen (r p : Point) (a : Arrow) : Type 0 where
-  pub x : a .x ≡ p .x -ℤ r .x
-  pub y : a .y ≡ p .y -ℤ r .y
-  pub short : Short a
 
 -- a list that is a ring of n vertices on the grid, and a point of the grid
 pub record Ready (xs : List ℤ) (n : ℕ) (R : Point) : Type 0 where
@@ -34,14 +31,59 @@ pub record Ready (xs : List ℤ) (n : ℕ) (R : Point) : Type 0 where
   pub grid : someBeyond xs ≡ false
   pub point : OnGrid R
 
--- the walk stands at vertex i, which is not R, and has turned little enough for one edge more
-pub record Stands (P : List Point) (R : Point) (i : ℕ) (w : Walk) : Type 0 where
-  pub here : w .quadrant ≡ quadrant R (at P i)
-  pub away : w .quadrant < 4
-  pub few : natAbs (w .turned .0) ≤ 4096
+-- the same where the number of vertices does not matter
+pub record Clean (xs : List ℤ) (R : Point) : Type 0 where
+  pub most : length (vertices xs) ≤ 2048
+  pub grid : someBeyond xs ≡ false
+  pub point : OnGrid R
 
--- the walk has gone on to the quadrant q with so many quarter turns more; if it met R on edge i and had met it on none before, it notes i (n stands for none)
-pub record Gone (n i q : ℕ) (more : ℤ) (met : Bool) (w v : Walk) : Type 0 where
-  pub stands : v .quadrant ≡ q
-  pub turned : v .turned .0 ≡ w .turned .0 +ℤ more
-  pub edge : v .edge ≡ pick (met && leb n (w .edge)) i (w .edge)
+-- the way from one point of the grid to another
+pub record Way (R P : Point) (a : Arrow) : Type 0 where
+  pub x : a .x ≡ P .x -ℤ R .x
+  pub y : a .y ≡ P .y -ℤ R .y
+  pub short : Short a
+
+-- more than the crossings of any ring: each edge counts 1 at most
+abbrev pub mostTurns : ℕ
+mostTurns = 4096
+
+-- the end's mark is 1 where the way leads down, otherwise 0
+abbrev pub Marked : End → Type 0
+Marked e = e .low ≡ pos (count (ltZ (e .way .y) (pos 0)))
+
+-- P as seen from R
+pub record Sight (R P : Point) (e : End) : Type 0 where
+  pub way : Way R P (e .way)
+  pub marked : Marked e
+
+-- v is c after the edge from one end to the other
+pub record Gone (from to : End) (c v : Count) : Type 0 where
+  pub turns : v .turns ≡ c .turns +ℤ steps (cross (from .way) (to .way)) (ltZ (from .way .y) (pos 0)) (ltZ (to .way .y) (pos 0))
+  pub clear : v .clear ≡ pick (eqZ (cross (from .way) (to .way)) (pos 0)) 0 (c .clear)
+
+-- none of the k edges from vertex i on holds R
+abbrev pub Free : List Point → Point → ℕ → ℕ → Type 0
+Free P R i k = (j : ℕ) → j < k → onEdge P R (i + j) ≡ false
+
+-- v is c after the k edges from vertex i on: if none of them holds R it has their crossings more; and if it is clear, none does, and c was clear
+pub record Counts (P : List Point) (R : Point) (i k : ℕ) (c v : Count) : Type 0 where
+  pub turns : Free P R i k → v .turns ≡ c .turns +ℤ total (crossing R) (λ j. at P (i + j)) k
+  pub clear : 0 < v .clear → (0 < c .clear) × Free P R i k
+  pub few : natAbs (v .turns) ≤ natAbs (c .turns) + k
+
+-- the vertices from vertex i to vertex i + k lie all on one side of R's row or column
+pub data Aside (P : List Point) (R : Point) (i k : ℕ) : Type 0 where
+  north : ((j : ℕ) → j ≤ k → ltZ (R .y) (at P (i + j) .y) ≡ true) → Aside P R i k
+  south : ((j : ℕ) → j ≤ k → ltZ (at P (i + j) .y) (R .y) ≡ true) → Aside P R i k
+  east : ((j : ℕ) → j ≤ k → ltZ (R .x) (at P (i + j) .x) ≡ true) → Aside P R i k
+  west : ((j : ℕ) → j ≤ k → ltZ (at P (i + j) .x) (R .x) ≡ true) → Aside P R i k
+
+-- the count of no edge
+abbrev pub none : Count
+none = record { turns = pos 0; clear = 1 }
+
+-- the count of a whole ring
+pub record Counted (P : List Point) (R : Point) (c : Count) : Type 0 where
+  pub turns : Free P R 0 (length P) → c .turns ≡ winding P R
+  pub clear : 0 < c .clear → Free P R 0 (length P)
+  pub few : natAbs (c .turns) ≤ mostTurns

@@ -1,8 +1,9 @@
-// Where a grid point lies against one closed ring: at a vertex, on an edge, or off the ring with its winding number,
-// counted by quarter turns as Hormann and Agathos do. The call for everybody is `locate`; it has no `requires`. The crates above
-// that know their rings to be good use `locate_on`, which tests nothing again.
+// Where a grid point lies against one closed ring: at a vertex, on an edge, or off the ring with its winding number, which is Hormann and
+// Agathos' by quarter turns; the code counts crossings, which is proved to come to the same. The call for everybody is `locate`; it has no
+// `requires`. The crates above that know their rings to be good use `locate_on`, which tests nothing again.
+mod counting;
 mod grid;
-mod turns;
+mod places;
 mod walk;
 
 pub use grid::beyond;
@@ -24,9 +25,6 @@ pub struct Point {
     pub x: i32,
     pub y: i32,
 }
-
-// Quarter turns and whole turns are separate counts: only `turns::whole` leads from the one to the other.
-pub struct Quarters(pub i32);
 
 pub struct Winding(pub i32);
 
@@ -62,5 +60,10 @@ pub fn locate(ring: &[i32], x: i32, y: i32) -> Located
     if some_beyond(ring) | (beyond(x) | beyond(y)) {
         return Located::Refused(Refusal::BeyondGrid);
     }
-    locate_on(ring, m / 2, Point { x, y })
+    let n = m / 2;
+    let r = Point { x, y };
+    if n <= counting::BLOCK {
+        return walk::locate_on_short(ring, n, r);
+    }
+    locate_on(ring, n, r)
 }

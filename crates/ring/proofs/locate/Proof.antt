@@ -5,11 +5,14 @@ use mathlib.Core.Path.{_≡_, sym, ap, _∙_}
 use mathlib.Core.Bool.{false, _||_}
 use lib.Dec.{eqb, ltb}
 use lib.ListN.{length}
+use mir.Syntax.{w32}
+use mir.Val.{toZ, ofZ}
 use mir.Facts.{toZ-ofZ}
 use borrow.Author.Needs.{needs}
 use borrow.Author.Tests.{eqb-false, ltb-false}
 use Rattle.ring.specs.Grid.{point, vertices, beyond, someBeyond, noRing}
 use Rattle.ring.specs.Locate.{located, locatedOn}
+use Rattle.ring.specs.Walk.{Ready}
 use Rattle.ring.proofs.Pick.{pick-true, pick-false, neither-left, neither-right}
 use Rattle.ring.proofs.OnGrid.{point-on-grid}
 use Rattle.ring.proofs.locate.Statement.{statement}
@@ -49,8 +52,9 @@ returns-2 c =
     let second = c .before in
     sym (pick-false (a-ring (second .before .before .before)) _ _ ∙ pick-true (tested second ∙ c .if2 .taken) _ _)
 
-locate-on-requires : tie.Need-locate-on-requires
-locate-on-requires c κs =
+-- what is left is a ring and a point of the grid
+ready : (c : tie.Else2) → let start = c .before .before .before .before .before .before in Ready (start .args .ring .now) (length (start .args .ring .now) / 2) (point (toZ w32 (ofZ w32 (start .args .x))) (toZ w32 (ofZ w32 (start .args .y))))
+ready c =
     let start = c .before .before .before .before .before .before in
     let xs = start .args .ring .now in
     let m = length xs in
@@ -69,14 +73,25 @@ locate-on-requires c κs =
       point = point-on-grid (start .args .x) (start .args .y) (neither-left (beyond (start .args .x)) _ p) (neither-right (beyond (start .args .x)) _ p);
     })
 
-returns-3 : tie.Need-returns-3
+-- and where the point lies is the answer
+accepted : (c : tie.Else2) → let start = c .before .before .before .before .before .before in locatedOn (vertices (start .args .ring .now)) (point (toZ w32 (ofZ w32 (start .args .x))) (toZ w32 (ofZ w32 (start .args .y)))) ≡ located (start .args .ring .now) (start .args .x) (start .args .y)
 unfolding located
-returns-3 c =
-    let second = c .before .before in
-    let start = second .before .before .before .before .before in
-    c .locate-on .ensures
-    ∙ (λ i. locatedOn (vertices (start .args .ring .now)) (point (toZ-ofZ (start .fits .x) i) (toZ-ofZ (start .fits .y) i)))
-    ∙ sym (pick-false (a-ring (second .before .before .before)) _ _ ∙ pick-false (tested second ∙ c .before .if2 .left) _ _)
+accepted c =
+    let start = c .before .before .before .before .before .before in
+    (λ i. locatedOn (vertices (start .args .ring .now)) (point (toZ-ofZ (start .fits .x) i) (toZ-ofZ (start .fits .y) i)))
+    ∙ sym (pick-false (a-ring (c .before .before .before .before)) _ _ ∙ pick-false (tested (c .before) ∙ c .if2 .left) _ _)
+
+locate-on-short-requires : tie.Need-locate-on-short-requires
+locate-on-short-requires c κs = ready (c .before)
+
+returns-3 : tie.Need-returns-3
+returns-3 c = c .locate-on-short .ensures ∙ accepted (c .before .before)
+
+locate-on-requires : tie.Need-locate-on-requires
+locate-on-requires c κs = ready (c .before)
+
+returns-4 : tie.Need-returns-4
+returns-4 c = c .locate-on .ensures ∙ accepted (c .before .before)
 
 pub locate-spec : {M : Type 1} → statement M
 locate-spec =
@@ -88,5 +103,7 @@ locate-spec =
     beyond-requires
     beyond-requires-2
     returns-2
+    locate-on-short-requires
+    returns-3
     locate-on-requires
-    returns-3)
+    returns-4)

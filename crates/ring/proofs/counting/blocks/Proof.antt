@@ -1,0 +1,90 @@
+-- `ring::counting::blocks`: the closing edge, and after some blocks the first i edges. The measure is the number of edges left. Assumes nothing.
+use Prim.Native.Nat.{_-_, _<_}
+use native.Mathlib.Omega.{arith}
+use native.Mathlib.Nat.{zero-add}
+use mathlib.Core.Path.{_≡_, sym, subst}
+use lib.ListN.{length}
+use borrow.Author.Needs.{needs}
+use Rattle.ring.specs.Grid.{vertices}
+use Rattle.ring.specs.Walk.{Counts}
+use Rattle.ring.proofs.Vertices.{length-vertices}
+use Rattle.ring.proofs.Walks.{ready-clean, counts-none, counts-on, counts-all}
+use Rattle.ring.proofs.counting.blocks.Statement.{statement}
+use Rattle.ring.proofs.counting.blocks.Tie as tie
+
+abbrev Inv-loop : tie.InvT-loop
+Inv-loop ring n r count₀ i₀ count i = (i < n) × Counts (vertices ring) r 0 i count₀ count
+
+abbrev μ-loop : tie.MeasureT-loop
+μ-loop ring n r count₀ i₀ count i = n - i
+
+size : (c : tie.Start Inv-loop μ-loop) → length (vertices (c .args .ring .now)) ≡ c .args .n
+size c = length-vertices (c .args .ring .now) (c .args .n) (c .pre .even)
+
+closing-requires : tie.Need-closing-requires Inv-loop μ-loop
+closing-requires c κs = search needs
+
+loop-holds : tie.Need-loop-holds Inv-loop μ-loop
+loop-holds c =
+    let start = c .before in
+    (omega (arith, start .pre .least), counts-none (vertices (start .args .ring .now)) (start .args .r) 0 (c .closing .result))
+
+add-loop : tie.Need-add-loop Inv-loop μ-loop
+add-loop c = omega (arith, c .loop .inv .0, c .before .before .pre .most)
+
+block-size-requires : tie.Need-block-size-requires Inv-loop μ-loop
+block-size-requires c κs = (c .loop-test .taken, c .before .before .before .pre .most)
+
+block-requires : tie.Need-block-requires Inv-loop μ-loop
+block-requires c κs =
+    let turn = c .before .before in
+    let start = turn .before .before in
+    let ready = start .pre in
+    let block = c .block-size .ensures in (
+      ready-clean (start .args .ring .now) (start .args .n) (start .args .r) ready,
+      ((block .0, omega (arith, size start, block .1)), omega (arith, block .1, turn .loop .inv .1 .few, turn .before .closing .ensures .few, ready .most)),
+    )
+
+add-i : tie.Need-add-i Inv-loop μ-loop
+add-i c = omega (arith, c .before .block-size .ensures .1, c .before .before .before .before .before .pre .most)
+
+loop-less : tie.Need-loop-less Inv-loop μ-loop
+loop-less c = omega (arith, c .before .block-size .ensures .0, c .before .block-size .ensures .1)
+
+loop-again : tie.Need-loop-again Inv-loop μ-loop
+loop-again c =
+    let turn = c .before .before .before in
+    let first = turn .before in
+    let start = first .before in
+    let P = vertices (start .args .ring .now) in
+    let k = c .before .block-size .result in (
+      c .before .block-size .ensures .1,
+      counts-on P (start .args .r) 0 (turn .loop .i) k (first .closing .result) (turn .loop .count) (c .block .result) (turn .loop .inv .1)
+          (subst (λ m. Counts P (start .args .r) m k (turn .loop .count) (c .block .result)) (sym (zero-add (turn .loop .i))) (c .block .ensures)),
+    )
+
+returns : tie.Need-returns Inv-loop μ-loop
+returns c =
+    let turn = c .before in
+    let first = turn .before in
+    let start = first .before in
+    let P = vertices (start .args .ring .now) in
+    let (less, counts) = turn .loop .inv in
+    counts-all P (start .args .r) (start .args .n) (first .closing .result) (turn .loop .count) (size start) (omega (arith, start .pre .least)) (start .pre .most) (first .closing .ensures)
+    (subst (λ k. Counts P (start .args .r) 0 k (first .closing .result) (turn .loop .count)) (omega (arith, less, c .loop-test .left)) counts)
+
+pub blocks-spec : {M : Type 1} → statement M
+blocks-spec =
+    tie.close
+    (tie.spec
+    Inv-loop
+    μ-loop
+    closing-requires
+    loop-holds
+    add-loop
+    block-size-requires
+    block-requires
+    add-i
+    loop-less
+    loop-again
+    returns)
