@@ -1,5 +1,5 @@
--- The crossing rule, by which the code counts; the promises speak of quarter turns. An edge that rises from below R's row to on or above it counts 1 if R lies to its left,
--- one that falls the other way counts -1 if R lies to its right. That the rule's ring sum off the ring is the winding number is proved in proofs/Crossings.antt. Assumes nothing.
+-- The crossing rule, by which the code counts; the promises speak of quarter turns. An edge that rises from below R's row to on or above it counts 1 if its determinant is above 0
+-- (R lies to its left), one that falls the other way counts -1 if it is below 0. That the rule's ring sum off the ring is the winding number is proved in proofs/Crossings.antt. Assumes nothing.
 use mathlib.Core.Bool.{Bool, not, _&&_, Bool·beq}
 use lib.IntN.{ℤ, pos, negsuc, _-ℤ_}
 use lib.Signed.{ltZ}

@@ -65,7 +65,8 @@ pub record Gone (from to : End) (c v : Count) : Type 0 where
 abbrev pub Free : List Point → Point → ℕ → ℕ → Type 0
 Free P R i k = (j : ℕ) → j < k → onEdge P R (i + j) ≡ false
 
--- v is c after the k edges from vertex i on: if none of them holds R it has their crossings more; and if it is clear, none does, and c was clear
+-- v is c after the k edges from vertex i on: if none of them holds R it has their crossings more; and if it is clear, none does, and c was clear. (Where one holds R, what was
+-- counted is used by nobody.)
 pub record Counts (P : List Point) (R : Point) (i k : ℕ) (c v : Count) : Type 0 where
   pub turns : Free P R i k → v .turns ≡ c .turns +ℤ total (crossing R) (λ j. at P (i + j)) k
   pub clear : 0 < v .clear → (0 < c .clear) × Free P R i k

@@ -55,7 +55,7 @@ fn seen(ring: &[i32], r: Point, i: usize) -> End
 // What the ends differ by, if that counts.
 fn added(from: End, to: End, counts: bool) -> Step
     requires { ⌜ Marked from × Marked to ⌝ }
-    ensures { λ s. ⌜ s .0 ≡ pick counts (from .low -ℤ to .low) (pos 0) ⌝ }
+    ensures { λ s. ⌜ (s .0 ≡ pick counts (from .low -ℤ to .low) (pos 0)) × (natAbs (s .0) ≤ 1) ⌝ }
 {
     if counts {
         return Step(from.low - to.low);
@@ -117,7 +117,8 @@ fn closing(ring: &[i32], n: usize, r: Point) -> Count
     ensures { λ c. ⌜ Counts (vertices (now (ring .entry))) r (n - 1) 1 none c ⌝ }
 {
     let nothing = Count { turns: 0, clear: 1 };
-    nothing.along(seen(ring, r, n - 1), seen(ring, r, 0))
+    let last = n - 1;
+    nothing.along(seen(ring, r, last), seen(ring, r, 0))
 }
 
 // On from c along the k edges from vertex i.

@@ -15,8 +15,8 @@ use Rattle.ring.proofs.counting.closing.Tie as tie
 size : (c : tie.Start) → length (vertices (c .args .ring .now)) ≡ c .args .n
 size c = length-vertices (c .args .ring .now) (c .args .n) (c .pre .even)
 
-sub-seen : tie.Need-sub-seen
-sub-seen c = search needs
+sub-last : tie.Need-sub-last
+sub-last c = search needs
 
 seen-requires : tie.Need-seen-requires
 seen-requires c κs = (ready-clean (c .args .ring .now) (c .args .n) (c .args .r) (c .pre), omega (arith, size c, c .pre .least))
@@ -42,4 +42,4 @@ returns c =
     (c .along .ensures)
 
 pub closing-spec : {M : Type 1} → statement M
-closing-spec = tie.close (tie.spec sub-seen seen-requires seen-requires-2 along-requires returns)
+closing-spec = tie.close (tie.spec sub-last seen-requires seen-requires-2 along-requires returns)

@@ -1,8 +1,7 @@
 -- `ring::counting::Count::along` adds what an edge adds (`steps`), and notes a determinant that is 0. Assumes nothing.
-use Prim.Native.Nat.{_≤_}
-use mathlib.Core.Path.{_≡_, sym, ap, subst, _∙_}
+use mathlib.Core.Path.{_≡_, ap, _∙_}
 use mathlib.Core.Bool.{Bool·beq}
-use lib.IntN.{ℤ, pos, natAbs, _+ℤ_, _-ℤ_}
+use lib.IntN.{ℤ, pos, _+ℤ_, _-ℤ_}
 use lib.Signed.{ltZ}
 use mir.Syntax.{w64}
 use mir.Val.{SFits}
@@ -12,7 +11,6 @@ use Rattle.exact.specs.Sign.{eqZ, cross}
 use Rattle.exact.proofs.Bounds.{within-fits}
 use Rattle.ring.specs.Choices.{pick}
 use Rattle.ring.specs.Crossings.{steps}
-use Rattle.ring.proofs.Crossings.{counted-few}
 use Rattle.ring.proofs.counting.Count.along.Statement.{statement}
 use Rattle.ring.proofs.counting.Count.along.Tie as tie
 
@@ -31,13 +29,13 @@ step-is c =
     let y = start .args .to .way .y in
     let f : SFits w64 (formed .determinant .result .0) = search needs in
     let g = within-fits w64 y 2000000000 (start .pre .1 .1 .1 .up) tt in
-    (simp (toZ-ofZ f, toZ-ofZ g) at (c .added .ensures))
+    (simp (toZ-ofZ f, toZ-ofZ g) at (c .added .ensures .0))
     ∙ (λ i. pick (Bool·beq (ltZ (formed .determinant .ensures i) (pos 0)) (ltZ y (pos 0))) (start .pre .1 .0 .0 i -ℤ start .pre .1 .0 .1 i) (pos 0))
 
 with-requires : tie.Need-with-requires
 with-requires c κs =
     let start = c .before .before .before .before .before .before in
-    (start .pre .0, subst (λ (z : ℤ). natAbs z ≤ 1) (sym (step-is c)) (counted-few (Bool·beq (ltZ (cross (start .args .from .way) (start .args .to .way)) (pos 0)) (ltZ (start .args .to .way .y) (pos 0))) (ltZ (start .args .from .way .y) (pos 0)) (ltZ (start .args .to .way .y) (pos 0))))
+    (start .pre .0, c .added .ensures .1)
 
 noting-requires : tie.Need-noting-requires
 noting-requires c κs = search needs

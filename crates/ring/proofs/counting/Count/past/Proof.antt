@@ -1,14 +1,12 @@
 -- `ring::counting::Count::past` adds what the ends' marks differ by, if the first lies east. Assumes nothing.
-use Prim.Native.Nat.{_≤_}
-use mathlib.Core.Path.{_≡_, sym, ap, subst, _∙_}
-use lib.IntN.{ℤ, pos, natAbs, _+ℤ_, _-ℤ_}
+use mathlib.Core.Path.{_≡_, ap, _∙_}
+use lib.IntN.{ℤ, pos, _+ℤ_, _-ℤ_}
 use lib.Signed.{ltZ}
 use mir.Syntax.{w64}
 use mir.Val.{SFits}
 use mir.Facts.{toZ-ofZ}
 use borrow.Author.Needs.{needs}
 use Rattle.ring.specs.Choices.{pick}
-use Rattle.ring.proofs.Crossings.{counted-few}
 use Rattle.ring.proofs.counting.Count.past.Statement.{statement}
 use Rattle.ring.proofs.counting.Count.past.Tie as tie
 
@@ -18,14 +16,12 @@ added-requires c κs = search needs
 step-is : (c : tie.After-added) → c .added .result .0 ≡ pick (ltZ (pos 0) (c .before .before .before .args .from .way .x)) (c .before .before .before .args .from .low -ℤ c .before .before .before .args .to .low) (pos 0)
 step-is c =
     let f : SFits w64 (c .before .before .before .args .from .way .x) = search needs in
-    simp (toZ-ofZ f) at (c .added .ensures)
+    simp (toZ-ofZ f) at (c .added .ensures .0)
 
 with-requires : tie.Need-with-requires
 with-requires c κs =
     let start = c .before .before .before in
-    let east = ltZ (pos 0) (start .args .from .way .x) in
-    let marks = step-is c ∙ (λ i. pick east (start .pre .1 .0 i -ℤ start .pre .1 .1 i) (pos 0)) in
-    (start .pre .0, subst (λ (z : ℤ). natAbs z ≤ 1) (sym marks) (counted-few east (ltZ (start .args .from .way .y) (pos 0)) (ltZ (start .args .to .way .y) (pos 0))))
+    (start .pre .0, c .added .ensures .1)
 
 returns : tie.Need-returns
 returns c =
