@@ -2,7 +2,8 @@
  *
  * A register is three lists that the caller keeps: `outline` of LAUNCHRAMP_OUTLINE_LENGTH numbers, `store` of LAUNCHRAMP_STORE_LENGTH and `runs` of
  * LAUNCHRAMP_RUNS_LENGTH. Lists of zeros are an empty register. Rings, paths, outlines and the store hold x, y, x, y, ..; coordinates are whole
- * millimetres. A list's length is told in numbers, not in points or bytes.
+ * millimetres. A list's length is told in numbers, not in points or bytes. Vertices are numbered from 0 in the list's order. Edge i goes from
+ * vertex i to the next one, the last edge back to vertex 0.
  * runs[0] is the outline's number of vertices (0: no outline); runs[1 + d] is where district d's ring begins in the store, counted in
  * vertices, and runs[65 + d] how many vertices it has (0: the number is unused). Read them; only the calls should write them.
  * Every call takes every input: lists of any length and content, any number, NaNs too. What the rules refuse is answered
@@ -15,17 +16,19 @@
  * halves to even: 0.0625 is 62, 0.1875 is 188, -0.0 is 0. Refusal 19 is a missing position, 18 a NaN or an infinity in either value, whatever
  * the other is; both come after 2. Then comes 5, which goes by the millimetres.
  *
- * An answer is its kind, which is returned, and two values, written to `values`; a value that is not named here is 0:
+ * An answer is its kind, which is returned, and its values. A call that is lent `values` writes all places of it, and 0 to those that are not named here:
  *
- *   LAUNCHRAMP_REFUSED   the refusal's number, LAUNCHRAMP_NOT_WELL_FORMED to LAUNCHRAMP_MISSING
- *   LAUNCHRAMP_DONE      the number of the district that was made (split), kept (merge) or founded (0); of a fix's millimetres 0
- *   LAUNCHRAMP_VERTEX    the index of the lowest vertex that is the point
- *   LAUNCHRAMP_EDGE      the index of the lowest edge that holds the point
- *   LAUNCHRAMP_OFF       the size of the winding number, and 1 where it is negative
- *   LAUNCHRAMP_BORDER    the lowest district on whose ring the report is
- *   LAUNCHRAMP_ONE       the district that alone holds the report
+ *   LAUNCHRAMP_REFUSED   0: the refusal's number, LAUNCHRAMP_NOT_WELL_FORMED to LAUNCHRAMP_MISSING
+ *   LAUNCHRAMP_DONE      0: the number of the district that was made (split), kept (merge) or founded (0); of a fix's millimetres 0
+ *   LAUNCHRAMP_VERTEX    0: the lowest index of a vertex that is the point; 1: the highest such index
+ *   LAUNCHRAMP_EDGE      0: the lowest index of an edge that holds the point, which is no vertex; 1: the highest such index
+ *   LAUNCHRAMP_OFF       0: the size of the winding number; 1: 1 where it is negative
+ *   LAUNCHRAMP_BORDER    0: the lowest district on whose ring the report is, and where it is on that one ring:
+ *                        LAUNCHRAMP_VALUE_ON (2): LAUNCHRAMP_VERTEX or LAUNCHRAMP_EDGE;
+ *                        LAUNCHRAMP_VALUE_LOWEST (3) and LAUNCHRAMP_VALUE_HIGHEST (4): the lowest and the highest index, as above
+ *   LAUNCHRAMP_ONE       0: the district that alone holds the report
  *   LAUNCHRAMP_NONE      (no district holds it)
- *   LAUNCHRAMP_SEVERAL   the lowest of the districts that hold the report, and how many they are
+ *   LAUNCHRAMP_SEVERAL   0: the lowest of the districts that hold the report; 1: how many they are
  */
 #ifndef LAUNCHRAMP_H
 #define LAUNCHRAMP_H
@@ -39,7 +42,7 @@ extern "C" {
 #endif
 
 /* The version of the library that this header is of. */
-#define LAUNCHRAMP_VERSION "0.3.0"
+#define LAUNCHRAMP_VERSION "0.4.0"
 
 #define LAUNCHRAMP_OUTLINE_LENGTH 4096
 #define LAUNCHRAMP_STORE_LENGTH 4096
@@ -51,7 +54,11 @@ extern "C" {
 #define LAUNCHRAMP_COUNT_NONE 65
 #define LAUNCHRAMP_COUNT_SEVERAL 66
 
-#define LAUNCHRAMP_VALUES 2
+/* How many values an answer has, and which of them tell where on a district's ring a report is. */
+#define LAUNCHRAMP_VALUES 8
+#define LAUNCHRAMP_VALUE_ON 2
+#define LAUNCHRAMP_VALUE_LOWEST 3
+#define LAUNCHRAMP_VALUE_HIGHEST 4
 
 enum {
     LAUNCHRAMP_REFUSED = 0,

@@ -20,7 +20,13 @@ pub const SEVERAL: u32 = 8;
 pub const COUNTS: usize = 67;
 
 /// How many values an answer has.
-const VALUES: usize = 2;
+const VALUES: usize = 8;
+
+/// The values that tell where on a district's ring a report is: VERTEX or EDGE, then the lowest and
+/// the highest index.
+pub const ON: usize = 2;
+pub const LOWEST: usize = 3;
+pub const HIGHEST: usize = 4;
 
 /// An answer: its kind and its values; the header tells what they mean for each kind.
 pub struct Answer {

@@ -6,7 +6,7 @@
 //! input; what the rules don't allow is answered by a [`Refusal`], and a refused call changes nothing.
 //!
 //! ```
-//! use launchramp::{Class, Position, Refusal, Register, Tally};
+//! use launchramp::{Class, Position, Refusal, Register, Tally, Touch};
 //!
 //! let mut register = Register::new();
 //! register.found(&[0, 0, 4, 0, 4, 4, 0, 4])?;
@@ -17,6 +17,9 @@
 //! let fix = Position::Fix { easting: 0.001, northing: 0.0031 };
 //! assert_eq!(register.assign_at_counted(fix, &mut tally)?, Class::One(new));
 //! assert_eq!(tally.one(new), 2);
+//! // On the straight from vertex 2 of district 0 back to its vertex 0, which is its edge 2.
+//! let touch = Touch::Edge { lowest: 2, highest: 2 };
+//! assert_eq!(register.assign(2, 2)?, Class::Border { district: 0, touch });
 //! # Ok::<(), Refusal>(())
 //! ```
 #![deny(unsafe_code)]
@@ -44,13 +47,22 @@ const BORDER: usize = 64;
 const NONE: usize = 65;
 const SEVERAL: usize = 66;
 
-/// Where a point lies against a ring. Edge i goes from vertex i to the next, the last one to vertex 0.
+/// Where a point is on a ring. Vertices are numbered from 0; edge i goes from vertex i to the next,
+/// the last one to vertex 0. Lowest and highest are the same unless the ring comes by the point more
+/// than once.
+#[derive(Clone, Copy, Debug, PartialEq, Eq, Hash)]
+pub enum Touch {
+    /// The lowest and the highest of the vertices that are the point.
+    Vertex { lowest: usize, highest: usize },
+    /// The lowest and the highest of the edges that hold the point, which is no vertex.
+    Edge { lowest: usize, highest: usize },
+}
+
+/// Where a point lies against a ring.
 #[derive(Clone, Copy, Debug, PartialEq, Eq, Hash)]
 pub enum Place {
-    /// The lowest vertex that is the point.
-    Vertex(usize),
-    /// The lowest edge that holds the point, which is no vertex.
-    Edge(usize),
+    /// On the ring.
+    On(Touch),
     /// Not on the ring: how often the ring winds round the point. With x to the right and y up,
     /// counterclockwise turns are positive.
     Off(i32),
@@ -59,8 +71,8 @@ pub enum Place {
 /// Where a report belongs, by the numbers of districts.
 #[derive(Clone, Copy, Debug, PartialEq, Eq, Hash)]
 pub enum Class {
-    /// On the ring of this district, the lowest such.
-    Border(usize),
+    /// On the ring of this district, the lowest such, and where on that ring.
+    Border { district: usize, touch: Touch },
     /// Inside this district alone.
     One(usize),
     /// In no district.
@@ -249,7 +261,10 @@ impl Eq for Register {}
 impl fmt::Debug for Register {
     fn fmt(&self, f: &mut fmt::Formatter<'_>) -> fmt::Result {
         if !self.is_well_formed() {
-            return f.debug_tuple("DamagedRegister").field(&self.lists()).finish();
+            return f
+                .debug_tuple("DamagedRegister")
+                .field(&self.lists())
+                .finish();
         }
         let used = (0..NUMBERS).filter_map(|d| Some((d, self.district(d)?)));
         f.debug_struct("Register")
@@ -317,42 +332,35 @@ fn ring(list: &[i32], place: u32, n: u32) -> Option<&[i32]> {
     list.get(start..start + length)
 }
 
-fn place(
-    Answer {
-        kind,
-        values: [first, second],
-    }: Answer,
-) -> Result<Place, Refusal> {
+fn place(Answer { kind, values }: Answer) -> Result<Place, Refusal> {
+    let [first, second, ..] = values;
     match kind {
-        calls::VERTEX => Ok(Place::Vertex(first as usize)),
-        calls::EDGE => Ok(Place::Edge(first as usize)),
+        calls::VERTEX | calls::EDGE => Ok(Place::On(touch(kind.into(), first, second))),
         calls::OFF if second == 1 => Ok(Place::Off(-(first as i32))),
         calls::OFF => Ok(Place::Off(first as i32)),
         _ => Err(refused(kind, first)),
     }
 }
 
-fn changed(
-    Answer {
-        kind,
-        values: [first, _],
-    }: Answer,
-) -> Result<usize, Refusal> {
+fn changed(Answer { kind, values }: Answer) -> Result<usize, Refusal> {
     match kind {
-        calls::DONE => Ok(first as usize),
-        _ => Err(refused(kind, first)),
+        calls::DONE => Ok(values[0] as usize),
+        _ => Err(refused(kind, values[0])),
     }
 }
 
-fn class(
-    Answer {
-        kind,
-        values: [first, second],
-    }: Answer,
-) -> Result<Class, Refusal> {
+fn class(Answer { kind, values }: Answer) -> Result<Class, Refusal> {
+    let [first, second, ..] = values;
     let d = first as usize;
     match kind {
-        calls::BORDER => Ok(Class::Border(d)),
+        calls::BORDER => Ok(Class::Border {
+            district: d,
+            touch: touch(
+                values[calls::ON],
+                values[calls::LOWEST],
+                values[calls::HIGHEST],
+            ),
+        }),
         calls::ONE => Ok(Class::One(d)),
         calls::NONE => Ok(Class::None),
         calls::SEVERAL => Ok(Class::Several {
@@ -363,15 +371,27 @@ fn class(
     }
 }
 
-/// Panics on an answer that the header doesn't have for the call: the archive is another library's.
+/// At vertices or on edges, as VERTEX or EDGE tells.
+fn touch(on: u64, lowest: u64, highest: u64) -> Touch {
+    let (lowest, highest) = (lowest as usize, highest as usize);
+    match u32::try_from(on) {
+        Ok(calls::VERTEX) => Touch::Vertex { lowest, highest },
+        Ok(calls::EDGE) => Touch::Edge { lowest, highest },
+        _ => unknown(calls::BORDER, on),
+    }
+}
+
 fn refused(kind: u32, number: u64) -> Refusal {
     let refusal = Refusal::ALL
         .into_iter()
         .find(|r| u64::from(r.number()) == number);
     match (kind, refusal) {
         (calls::REFUSED, Some(refusal)) => refusal,
-        _ => {
-            panic!("liblaunchramp.a answered {kind} with {number}, which launchramp.h doesn't have")
-        }
+        _ => unknown(kind, number),
     }
+}
+
+/// Panics: the header doesn't have this answer for the call, so the archive is another library's.
+fn unknown(kind: u32, value: u64) -> ! {
+    panic!("liblaunchramp.a answered {kind} with {value}, which launchramp.h doesn't have")
 }

@@ -7,13 +7,13 @@ use Rattle.ring.specs.Grid.{point, vertices}
 use Rattle.ring.specs.Rings.{at, total, ringSum}
 use Rattle.ring.specs.Turns.{quadrant, determinant, quarterTurns, winding}
 use Rattle.ring.specs.Segment.{same, onSegment}
-use Rattle.ring.specs.Locate.{lowest, locatedOn}
+use Rattle.ring.specs.Locate.{edge, lowest, highest, locatedOn}
 use Rattle.ring.specs.Known.{square}
 use Rattle.districts.specs.Counts.{allTo, sumTo, listTo}
 use Rattle.districts.specs.Register.{Register, slot, verticesOf}
 use Rattle.districts.specs.Answers.{Belongs, border, one, none, several}
 use Rattle.refusals.specs.Verdicts.{Verdict, accept, refuse, verdict}
-use Rattle.register.specs.Sorting.{onBorder, windsAbout, belongsTo}
+use Rattle.register.specs.Sorting.{belongsTo}
 use Rattle.register.specs.Founding.{founded}
 use Rattle.room.specs.Runs.{run}
 use Rattle.judging.specs.Splitting.{lowestUnused, vertexCount, splitTests}
@@ -30,7 +30,7 @@ windings a b = winding (verticesOf (slot spiked 0)) (point a b) ∷ winding (ver
 
 pub known-split :
     _≡_ {A = List Belongs} (belongsTo spiked (point (pos 2) (pos 6)) ∷ belongsTo spiked (point (pos 2) (pos 2)) ∷ []) (several 0 2 ∷ one 0 ∷ [])
-unfolding split lowestUnused run belongsTo onBorder windsAbout founded sumTo listTo locatedOn lowest vertices at total ringSum quadrant determinant quarterTurns winding same onSegment
+unfolding split lowestUnused run belongsTo founded sumTo listTo locatedOn lowest highest vertices at total ringSum quadrant determinant quarterTurns winding same onSegment
 known-split = refl
 
 pub known-windings : windings (pos 2) (pos 6) ≡ pos 1 ∷ negsuc 0 ∷ []
@@ -55,6 +55,6 @@ listing-judged = refl
 pub listing-reports :
     _≡_ {A = List Belongs}
     (belongsTo halves (point (pos 3) (pos 1)) ∷ belongsTo halves (point (pos 2) (pos 2)) ∷ belongsTo halves (point (pos 9) (pos 9)) ∷ belongsTo whole (point (pos 2) (pos 2)) ∷ [])
-    (one 0 ∷ border 0 ∷ none ∷ one 0 ∷ [])
-unfolding split merge lowestUnused run belongsTo onBorder windsAbout founded sumTo listTo locatedOn lowest vertices at total ringSum quadrant determinant quarterTurns winding same onSegment
+    (one 0 ∷ border 0 (edge 2 2) ∷ none ∷ one 0 ∷ [])
+unfolding split merge lowestUnused run belongsTo founded sumTo listTo locatedOn lowest highest vertices at total ringSum quadrant determinant quarterTurns winding same onSegment
 listing-reports = refl

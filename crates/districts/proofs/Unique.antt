@@ -11,16 +11,17 @@ use Rattle.districts.specs.Register.{Register}
 use Rattle.districts.specs.Lent.{Lists, formed, means, Leaves}
 use Rattle.refusals.specs.Verdicts.{Verdict, accept, refuse}
 use Rattle.refusals.proofs.Numbers.{refusalOf, refusal-back}
+use Rattle.ring.proofs.Unique.{codeTouch, touch-back}
 
 -- the rules' values read back
 abbrev pub classOf : Belongs → Class
-classOf (border d) = Border d
+classOf (border d t) = Border d (codeTouch t)
 classOf (one d) = One d
 classOf none = None
 classOf (several d n) = Several d n
 
 pub class-back : (c : Class) → classOf (belongs c) ≡ c
-class-back (Border d) = refl
+class-back (Border d t) = ap (Border d) (touch-back t)
 class-back (One d) = refl
 class-back None = refl
 class-back (Several d n) = refl

@@ -5,6 +5,7 @@ mod runs;
 
 use refusals::Refusal;
 use refusals::Verdict;
+use ring::Touch;
 pub use runs::FIRST_PLACES;
 pub use runs::SIZES;
 pub use runs::first_place;
@@ -32,8 +33,8 @@ pub const NUMBERS: usize = 64;
 
 // Where a report belongs, by the numbers of the districts.
 pub enum Class {
-    // On the ring of this district, the lowest such.
-    Border(usize),
+    // On the ring of this district, the lowest such, and where on it.
+    Border(usize, Touch),
     // Inside this district alone.
     One(usize),
     None,

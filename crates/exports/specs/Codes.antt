@@ -1,9 +1,9 @@
--- How an answer is told to other languages: a kind and two values. include/launchramp.h has the same. Assumes nothing.
+-- How an answer is told to other languages: a kind and eight values, of which those that are not used are 0. include/launchramp.h has the same. Assumes nothing.
 use Prim.Native.Nat.{ℕ, suc}
 use mathlib.Core.List.{List, [], _∷_}
 use mathlib.Core.Path.{_≡_}
 use lib.IntN.{ℤ, pos, negsuc}
-use Rattle.ring.specs.Locate.{Place, vertex, edge, off, refused}
+use Rattle.ring.specs.Locate.{Touch, vertex, edge, Place, on, off, refused}
 use Rattle.districts.specs.Answers as Answers
 use Rattle.districts.specs.Answers.{Belongs, border, one, none, several, Answer, report}
 use Rattle.refusals.specs.Verdicts.{Verdict, accept, refuse}
@@ -16,7 +16,7 @@ pub record Code : Type 0 where
   pub values : List ℕ
 
 abbrev pub code : ℕ → ℕ → ℕ → Code
-code k a b = record { kind = k; values = a ∷ b ∷ [] }
+code k a b = record { kind = k; values = a ∷ b ∷ 0 ∷ 0 ∷ 0 ∷ 0 ∷ 0 ∷ 0 ∷ [] }
 
 -- a refusal, by the rules' number
 abbrev pub refusedCode : ℕ → Code
@@ -31,9 +31,13 @@ abbrev pub offCode : ℤ → Code
 offCode (pos n) = code 4 n 0
 offCode (negsuc n) = code 4 (suc n) 1
 
+-- at vertices or on edges: the lowest index and the highest
+abbrev pub touchCode : Touch → Code
+touchCode (vertex i j) = code 2 i j
+touchCode (edge i j) = code 3 i j
+
 abbrev pub placeCode : Place → Code
-placeCode (vertex i) = code 2 i 0
-placeCode (edge i) = code 3 i 0
+placeCode (on t) = touchCode t
 placeCode (off w o) = offCode w
 placeCode (refused n) = refusedCode n
 
@@ -45,8 +49,16 @@ abbrev pub changeCode : Changes.Answer → Code
 changeCode (Changes.done d) = doneCode d
 changeCode (Changes.refused n) = refusedCode n
 
+-- on the ring of district d, at its vertices (2) or on its edges (3), from the lowest index to the highest
+abbrev pub borderCode : ℕ → ℕ → ℕ → ℕ → Code
+borderCode d kind i j = record { kind = 5; values = d ∷ 0 ∷ kind ∷ i ∷ j ∷ 0 ∷ 0 ∷ 0 ∷ [] }
+
+abbrev pub onBorderCode : ℕ → Touch → Code
+onBorderCode d (vertex i j) = borderCode d 2 i j
+onBorderCode d (edge i j) = borderCode d 3 i j
+
 abbrev pub classCode : Belongs → Code
-classCode (border d) = code 5 d 0
+classCode (border d t) = onBorderCode d t
 classCode (one d) = code 6 d 0
 classCode none = code 7 0 0
 classCode (several d n) = code 8 d n

@@ -5,6 +5,7 @@ mod telling;
 
 use fixes::Fix;
 use register::Position;
+use telling::Values;
 ghost use mathlib.Core.Path.{_≡_};
 ghost use Rattle.ring.specs.Locate.{located};
 ghost use Rattle.districts.specs.WellFormed.{wellFormed};
@@ -17,7 +18,7 @@ ghost use Rattle.exports.specs.Calls.{FoundTells, SplitTells, MergeTells
 
 // Where a point lies against one ring.
 #[no_mangle]
-pub extern "C" fn launchramp_locate(ring: &[i32], x: i32, y: i32, values: &mut [u64; 2]) -> u32
+pub extern "C" fn launchramp_locate(ring: &[i32], x: i32, y: i32, values: &mut Values) -> u32
     ensures { λ r. ⌜ Tells r (now (values .exit)) (placeCode (located (now (ring .entry)) x y)) ⌝ }
 {
     telling::place(ring::locate(ring, x, y), values)
@@ -37,7 +38,7 @@ pub extern "C" fn launchramp_found(
     store: &mut [i32],
     runs: &mut [u32],
     ring: &[i32],
-    values: &mut [u64; 2],
+    values: &mut Values,
 ) -> u32
     ensures { λ r. ⌜ FoundTells r (now (values .exit)) (now (ring .entry)) (record { outline = now (outline .entry); store = now (store .entry); runs = now (runs .entry) }) (record { outline = now (outline .exit); store = now (store .exit); runs = now (runs .exit) }) ⌝ }
 {
@@ -53,7 +54,7 @@ pub extern "C" fn launchramp_split(
     i: usize,
     j: usize,
     path: &[i32],
-    values: &mut [u64; 2],
+    values: &mut Values,
 ) -> u32
     ensures { λ r. ⌜ SplitTells r (now (values .exit)) d i j (now (path .entry)) (record { outline = now (outline .entry); store = now (store .entry); runs = now (runs .entry) }) (record { outline = now (outline .entry); store = now (store .exit); runs = now (runs .exit) }) ⌝ }
 {
@@ -70,7 +71,7 @@ pub extern "C" fn launchramp_merge(
     gone: usize,
     b: usize,
     k: usize,
-    values: &mut [u64; 2],
+    values: &mut Values,
 ) -> u32
     ensures { λ r. ⌜ MergeTells r (now (values .exit)) kept a gone b k (record { outline = now (outline .entry); store = now (store .entry); runs = now (runs .entry) }) (record { outline = now (outline .entry); store = now (store .exit); runs = now (runs .exit) }) ⌝ }
 {
@@ -88,7 +89,7 @@ pub extern "C" fn launchramp_assign(
     runs: &[u32],
     x: i32,
     y: i32,
-    values: &mut [u64; 2],
+    values: &mut Values,
 ) -> u32
     ensures { λ r. ⌜ Tells r (now (values .exit)) (answerCode (assigned (wellFormed (now (outline .entry)) (now (store .entry)) (now (runs .entry))) (meaning (now (outline .entry)) (now (store .entry)) (now (runs .entry))) 0 x y)) ⌝ }
 {
@@ -104,7 +105,7 @@ pub extern "C" fn launchramp_assign_counted(
     x: i32,
     y: i32,
     counts: &mut [u32; 67],
-    values: &mut [u64; 2],
+    values: &mut Values,
 ) -> u32
     ensures { λ r. ⌜ CountTells r (now (values .exit)) (assigned (wellFormed (now (outline .entry)) (now (store .entry)) (now (runs .entry))) (meaning (now (outline .entry)) (now (store .entry)) (now (runs .entry))) 0 x y) (now (counts .entry)) (now (counts .exit)) ⌝ }
 {
@@ -118,7 +119,7 @@ pub extern "C" fn launchramp_millimetres(
     easting: f64,
     northing: f64,
     point: &mut [i32; 2],
-    values: &mut [u64; 2],
+    values: &mut Values,
 ) -> u32
     ensures { λ r. ⌜ PlaceTells r (now (values .exit)) (placed easting northing) (now (point .entry)) (now (point .exit)) ⌝ }
 {
@@ -133,7 +134,7 @@ pub extern "C" fn launchramp_assign_fix(
     runs: &[u32],
     easting: f64,
     northing: f64,
-    values: &mut [u64; 2],
+    values: &mut Values,
 ) -> u32
     ensures { λ r. ⌜ Tells r (now (values .exit)) (answerCode (assignedAt (wellFormed (now (outline .entry)) (now (store .entry)) (now (runs .entry))) (meaning (now (outline .entry)) (now (store .entry)) (now (runs .entry))) 0 (Position.Fix (record { easting = easting; northing = northing })))) ⌝ }
 {
@@ -153,7 +154,7 @@ pub extern "C" fn launchramp_assign_fix_counted(
     easting: f64,
     northing: f64,
     counts: &mut [u32; 67],
-    values: &mut [u64; 2],
+    values: &mut Values,
 ) -> u32
     ensures { λ r. ⌜ CountTells r (now (values .exit)) (assignedAt (wellFormed (now (outline .entry)) (now (store .entry)) (now (runs .entry))) (meaning (now (outline .entry)) (now (store .entry)) (now (runs .entry))) 0 (Position.Fix (record { easting = easting; northing = northing }))) (now (counts .entry)) (now (counts .exit)) ⌝ }
 {
@@ -168,7 +169,7 @@ pub extern "C" fn launchramp_assign_missing(
     outline: &[i32],
     store: &[i32],
     runs: &[u32],
-    values: &mut [u64; 2],
+    values: &mut Values,
 ) -> u32
     ensures { λ r. ⌜ Tells r (now (values .exit)) (answerCode (assignedAt (wellFormed (now (outline .entry)) (now (store .entry)) (now (runs .entry))) (meaning (now (outline .entry)) (now (store .entry)) (now (runs .entry))) 0 Position.Missing)) ⌝ }
 {

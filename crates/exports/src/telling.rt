@@ -1,4 +1,4 @@
-// Telling an answer: its kind, and its values in a lent list of two.
+// Telling an answer: its kind, and its values in a lent list of eight.
 use changes::Changed;
 use districts::Assigned;
 use districts::Class;
@@ -6,14 +6,18 @@ use fixes::Placed;
 use refusals::Refusal;
 use register::Founded;
 use ring::Located;
+use ring::Touch;
 use ring::Winding;
-ghost use Rattle.ring.specs.Locate.{placeOf};
+ghost use Rattle.ring.specs.Locate.{touchOf, placeOf};
 ghost use Rattle.refusals.specs.Numbers.{numberOf};
 ghost use Rattle.districts.specs.Answers.{belongs, answerOf};
 ghost use Rattle.register.specs.Calls.{outcomeOf};
 ghost use Rattle.changes.specs.Answers as Changes;
-ghost use Rattle.exports.specs.Codes.{code, refusedCode, offCode, placeCode, verdictCode, changeCode, classCode, answerCode, Tells};
+ghost use Rattle.exports.specs.Codes.{code, refusedCode, offCode, touchCode, placeCode, verdictCode, changeCode, borderCode, onBorderCode, classCode, answerCode, Tells};
 ghost use Rattle.exports.specs.Calls.{PlaceTells};
+
+// What an answer's values are written to; include/launchramp.h has their number too.
+pub type Values = [u64; 8];
 
 const REFUSED: u32 = 0;
 
@@ -33,21 +37,21 @@ const NONE: u32 = 7;
 
 const SEVERAL: u32 = 8;
 
-fn told(kind: u32, a: usize, b: usize, values: &mut [u64; 2]) -> u32
+fn told(kind: u32, a: usize, b: usize, values: &mut Values) -> u32
     ensures { λ r. ⌜ Tells r (now (values .exit)) (code kind a b) ⌝ }
 {
-    *values = [a as u64, b as u64];
+    *values = [a as u64, b as u64, 0, 0, 0, 0, 0, 0];
     kind
 }
 
-fn refused(r: Refusal, values: &mut [u64; 2]) -> u32
+fn refused(r: Refusal, values: &mut Values) -> u32
     ensures { λ k. ⌜ Tells k (now (values .exit)) (refusedCode (numberOf r)) ⌝ }
 {
     told(REFUSED, refusals::number(r), 0, values)
 }
 
 // A winding number as its size, and 1 where it is negative.
-fn off(w: Winding, values: &mut [u64; 2]) -> u32
+fn off(w: Winding, values: &mut Values) -> u32
     ensures { λ r. ⌜ Tells r (now (values .exit)) (offCode (w .0)) ⌝ }
 {
     let turns = w.0 as i64;
@@ -57,18 +61,52 @@ fn off(w: Winding, values: &mut [u64; 2]) -> u32
     told(OFF, turns as usize, 0, values)
 }
 
-pub fn place(p: Located, values: &mut [u64; 2]) -> u32
+fn touched(t: Touch, values: &mut Values) -> u32
+    ensures { λ r. ⌜ Tells r (now (values .exit)) (touchCode (touchOf t)) ⌝ }
+{
+    match t {
+        Touch::Vertex(lowest, highest) => told(VERTEX, lowest, highest, values),
+        Touch::Edge(lowest, highest) => told(EDGE, lowest, highest, values),
+    }
+}
+
+// On the ring of district d, at vertices or on edges as `kind` tells.
+fn bordered(d: usize, kind: u32, lowest: usize, highest: usize, values: &mut Values) -> u32
+    ensures { λ r. ⌜ Tells r (now (values .exit)) (borderCode d kind lowest highest) ⌝ }
+{
+    *values = [
+        d as u64,
+        0,
+        kind as u64,
+        lowest as u64,
+        highest as u64,
+        0,
+        0,
+        0,
+    ];
+    BORDER
+}
+
+fn on_border(d: usize, t: Touch, values: &mut Values) -> u32
+    ensures { λ r. ⌜ Tells r (now (values .exit)) (onBorderCode d (touchOf t)) ⌝ }
+{
+    match t {
+        Touch::Vertex(lowest, highest) => bordered(d, VERTEX, lowest, highest, values),
+        Touch::Edge(lowest, highest) => bordered(d, EDGE, lowest, highest, values),
+    }
+}
+
+pub fn place(p: Located, values: &mut Values) -> u32
     ensures { λ r. ⌜ Tells r (now (values .exit)) (placeCode (placeOf p)) ⌝ }
 {
     match p {
-        Located::Vertex(i) => told(VERTEX, i, 0, values),
-        Located::Edge(i) => told(EDGE, i, 0, values),
+        Located::On(touch) => touched(touch, values),
         Located::Off(w, _) => off(w, values),
         Located::Refused(r) => refused(r, values),
     }
 }
 
-pub fn founded(f: Founded, values: &mut [u64; 2]) -> u32
+pub fn founded(f: Founded, values: &mut Values) -> u32
     ensures { λ r. ⌜ Tells r (now (values .exit)) (verdictCode (outcomeOf f)) ⌝ }
 {
     match f {
@@ -77,7 +115,7 @@ pub fn founded(f: Founded, values: &mut [u64; 2]) -> u32
     }
 }
 
-pub fn changed(c: Changed, values: &mut [u64; 2]) -> u32
+pub fn changed(c: Changed, values: &mut Values) -> u32
     ensures { λ r. ⌜ Tells r (now (values .exit)) (changeCode (Changes.answerOf c)) ⌝ }
 {
     match c {
@@ -86,18 +124,18 @@ pub fn changed(c: Changed, values: &mut [u64; 2]) -> u32
     }
 }
 
-fn class(c: Class, values: &mut [u64; 2]) -> u32
+fn class(c: Class, values: &mut Values) -> u32
     ensures { λ r. ⌜ Tells r (now (values .exit)) (classCode (belongs c)) ⌝ }
 {
     match c {
-        Class::Border(d) => told(BORDER, d, 0, values),
+        Class::Border(d, touch) => on_border(d, touch, values),
         Class::One(d) => told(ONE, d, 0, values),
         Class::None => told(NONE, 0, 0, values),
         Class::Several(d, n) => told(SEVERAL, d, n, values),
     }
 }
 
-pub fn assigned(a: Assigned, values: &mut [u64; 2]) -> u32
+pub fn assigned(a: Assigned, values: &mut Values) -> u32
     ensures { λ r. ⌜ Tells r (now (values .exit)) (answerCode (answerOf a)) ⌝ }
 {
     match a {
@@ -110,7 +148,7 @@ pub fn assigned(a: Assigned, values: &mut [u64; 2]) -> u32
 }
 
 // A fix on the grid is written to `point`; otherwise that stays as it was.
-pub fn placed(p: Placed, point: &mut [i32; 2], values: &mut [u64; 2]) -> u32
+pub fn placed(p: Placed, point: &mut [i32; 2], values: &mut Values) -> u32
     ensures { λ r. ⌜ PlaceTells r (now (values .exit)) p (now (point .entry)) (now (point .exit)) ⌝ }
 {
     match p {

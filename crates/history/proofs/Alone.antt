@@ -10,17 +10,16 @@ use mathlib.Core.List.{List, [], _∷_}
 use mathlib.Core.Logic.{_⊎_, inl, inr}
 use lib.IntN.{ℤ, pos, negsuc, _+ℤ_, +ℤ-idl}
 use lib.ListN.{length, getD}
-use borrow.Author.Tests.{le-ltb}
 use Rattle.exact.specs.Sign.{eqZ}
 use Rattle.exact.proofs.Parts.{up, down}
 use Rattle.ring.specs.declared.Point.{Point}
 use Rattle.ring.specs.Grid.{point, beyond}
 use Rattle.ring.specs.Choices.{pick, count}
-use Rattle.ring.specs.Turns.{quarterTurns, winding, oddly}
-use Rattle.ring.specs.Locate.{off, lowest, atVertex, onEdge, choose, locatedOn}
-use Rattle.ring.proofs.Pick.{pick-false}
+use Rattle.ring.specs.Turns.{quarterTurns, winding}
+use Rattle.ring.specs.Locate.{Place, lowest}
 use Rattle.ring.proofs.Quadrants.{turns-reverse}
 use Rattle.ring.proofs.Search.{lowest-none, lowest-is, lowest-over}
+use Rattle.ring.proofs.Settled.{off-ring}
 use Rattle.districts.specs.Counts.{sumTo}
 use Rattle.districts.specs.Lent.{beginning}
 use Rattle.districts.specs.Register.{Slot, unused, ring, Register, slot, inUse}
@@ -28,32 +27,23 @@ use Rattle.districts.specs.Answers.{report, one}
 use Rattle.districts.proofs.Sums.{sum-zero}
 use Rattle.districts.proofs.Counting.{term-most}
 use Rattle.refusals.specs.Verdicts.{accept, verdict}
-use Rattle.register.specs.Sorting.{rests, winds, ofSlot, onBorder, windsAbout, sorted, belongsTo, assigned}
+use Rattle.register.specs.Sorting.{rests, winds, restsAt, liesTo, sorted, belongsTo, assigned}
 use Rattle.register.proofs.Given.{answer-given, point-taken}
 use Rattle.refusals.proofs.Verdicts.{passes, passed-all}
 use Rattle.history.specs.Histories.{Call, empty, after}
 use Rattle.history.specs.Adding.{sumOver, slotWinding, Clear, ClearOf, SaidOne}
 use Rattle.judging.proofs.Told.{used-below}
 use Rattle.history.proofs.Balanced.{balanced}
-use Rattle.history.proofs.Windings.{no-vertex, windings-add-up}
+use Rattle.history.proofs.Windings.{windings-add-up}
 
 -- ---- off a ring
 
-off-ring : (P : List Point) (R : Point) → ((i : ℕ) → i < length P → onEdge P R i ≡ false) → locatedOn P R ≡ off (winding P R) (oddly (winding P R))
-unfolding locatedOn
-off-ring P R free =
-    let n = length P in
-    let vertex = lowest-none (atVertex P R) n 0 (λ j least most. no-vertex P R j (free j (omega arith))) ∙ zero-add n in
-    let edge = lowest-none (onEdge P R) n 0 (λ j least most. free j (omega arith)) ∙ zero-add n in
-    let past = le-ltb n n (omega arith) in
-    (λ t. choose n (vertex t) (edge t) (winding P R)) ∙ pick-false past _ _ ∙ pick-false past _ _
-
 -- on no edge of a slot, R is not on its border, and winds about it where its winding number is not 0
-no-border : (R : Point) (s : Slot) → Clear R s → ofSlot rests R s ≡ false
+no-border : (R : Point) (s : Slot) → Clear R s → rests (liesTo R s) ≡ false
 no-border R unused free = refl
 no-border R (ring P) free = ap rests (off-ring P R free)
 
-winds-by : (R : Point) (s : Slot) → Clear R s → ofSlot winds R s ≡ not (eqZ (slotWinding R s) (pos 0))
+winds-by : (R : Point) (s : Slot) → Clear R s → winds (liesTo R s) ≡ not (eqZ (slotWinding R s) (pos 0))
 winds-by R unused free = refl
 winds-by R (ring P) free = ap winds (off-ring P R free)
 
@@ -145,10 +135,10 @@ module _ (g : Register) (r : ℕ) (x y u : ℤ) (full : length (g .districts) �
   other = unit-other u unit
 
   about : ℕ → Bool
-  about d = windsAbout g (point x y) d
+  about d = winds (liesTo (point x y) (slot g d))
 
   about-is : (d : ℕ) → about d ≡ not (eqZ (slotWinding (point x y) (slot g d)) (pos 0))
-  unfolding about windsAbout
+  unfolding about
   about-is d = winds-by (point x y) (slot g d) (free .districts d)
 
   -- exactly one district
@@ -201,16 +191,16 @@ module _ (g : Register) (r : ℕ) (x y u : ℤ) (full : length (g .districts) �
       twice : (i j : ℕ) → i < j → j < 64 → about i ≡ true → about j ≡ true → ⊥
       twice i j h k p q = let two = two-terms 64 (λ d. count (about d)) i j h k (ap count p) (ap count q) in omega (arith, two, how-many)
 
-  clear : (d : ℕ) → onBorder g (point x y) d ≡ false
-  unfolding onBorder
+  clear : (d : ℕ) → rests (liesTo (point x y) (slot g d)) ≡ false
   clear d = no-border (point x y) (slot g d) (free .districts d)
 
   -- the report is answered by where its point belongs
   belongs : belongsTo g (point x y) ≡ one which
   unfolding belongsTo about which
   belongs =
-      let border = lowest-none (onBorder g (point x y)) 64 0 (λ d least most. clear d) in
-      (λ t. sorted (border t) (how-many t) (lowest (windsAbout g (point x y)) 64 0))
+      let place : ℕ → Place = λ d. liesTo (point x y) (slot g d) in
+      let border = lowest-none (λ d. rests (place d)) 64 0 (λ d least most. clear d) in
+      (λ t. sorted (border t) (restsAt (place (border t))) (how-many t) (lowest (λ d. winds (place d)) 64 0))
 
   begun : verdict (beginning true g) ≡ accept
   begun = passes 1 _ _ refl ∙ passes 2 _ _ (ap not (winds-in-use (point x y) (g .outline) u other whole)) ∙ passed-all

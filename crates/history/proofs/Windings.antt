@@ -3,50 +3,28 @@
 use Prim.Native.Nat.{ℕ, suc, _<_}
 use native.Mathlib.Omega.{arith}
 use mathlib.Core.Path.{_≡_, refl, sym, ap, _∙_}
-use mathlib.Core.Bool.{true, false}
+use mathlib.Core.Bool.{false}
 use mathlib.Core.List.{List, [], _∷_}
 use lib.IntN.{ℤ, pos, _+ℤ_, _*ℤ_}
 use lib.ListN.{length, getD}
 use Rattle.exact.proofs.Parts.{up, down, parts-mul, by-parts}
 use Rattle.exact.proofs.Sums.{*ℤ-+ℤ}
-use Rattle.exact.proofs.Poly.{var, num, add, mul, identity}
 use Rattle.ring.specs.declared.Point.{Point}
-use Rattle.ring.specs.Choices.{pick}
-use Rattle.ring.specs.Rings.{at, total, ringSum}
+use Rattle.ring.specs.Rings.{total, ringSum}
 use Rattle.ring.specs.Turns.{quarterTurns, winding}
-use Rattle.ring.specs.Segment.{same, onSegment}
-use Rattle.ring.specs.Locate.{atVertex, onEdge}
+use Rattle.ring.specs.Locate.{onEdge}
 use Rattle.ring.proofs.Quadrants.{turns-reverse}
-use Rattle.ring.proofs.Segments.{weighs-segment}
 use Rattle.ring.proofs.Fours.{winding-exact}
 use Rattle.districts.specs.Register.{Slot, unused, ring}
-use Rattle.districts.proofs.Tests.{refuted}
-use Rattle.judging.proofs.Sums.{same-is}
 use Rattle.history.specs.Histories.{Call, empty, after}
 use Rattle.history.specs.Adding.{sumOver, slotSum, slotWinding, Clear, ClearOf}
 use Rattle.history.proofs.Balanced.{districts-add-up}
-
--- a vertex is on the edge that begins there
-first-end : (R P Q : Point) → same R P ≡ true → onSegment R P Q ≡ true
-first-end R P Q e = weighs-segment R P Q (record {
-  s = 1;
-  t = 0;
-  some = omega arith;
-  across = there (P .x) (Q .x) ∙ ap (λ p. pos 1 *ℤ p .x) (sym (same-is R P e));
-  up = there (P .y) (Q .y) ∙ ap (λ p. pos 1 *ℤ p .y) (sym (same-is R P e));
-})
-  where
-    there : (p q : ℤ) → pos 1 *ℤ p +ℤ pos 0 *ℤ q ≡ pos 1 *ℤ p
-    there p q = identity (p ∷ q ∷ []) (add (mul (num (pos 1)) (var 0)) (mul (num (pos 0)) (var 1))) (mul (num (pos 1)) (var 0)) tt
-
-pub no-vertex : (P : List Point) (R : Point) (i : ℕ) → onEdge P R i ≡ false → atVertex P R i ≡ false
-no-vertex P R i e = refuted (atVertex P R i) (λ here. let clash : _≡_ {A = ℕ} 0 1 = ap (λ b. pick b 1 0) (sym e ∙ first-end R (at P i) (at P (suc i)) here) in omega arith)
 
 -- off a ring, the winding number is exactly a quarter of the quarter turns; a ring of no vertices has none of either
 ring-exact : (P : List Point) (R : Point) → ((i : ℕ) → i < length P → onEdge P R i ≡ false) → pos 4 *ℤ winding P R ≡ ringSum (quarterTurns R) P
 unfolding winding ringSum total
 ring-exact [] R free = refl
-ring-exact (p ∷ P) R free = winding-exact (p ∷ P) R (omega arith) (λ i h. (no-vertex (p ∷ P) R i (free i h), free i h))
+ring-exact (p ∷ P) R free = winding-exact (p ∷ P) R (omega arith) free
 
 slot-exact : (R : Point) (s : Slot) → Clear R s → pos 4 *ℤ slotWinding R s ≡ slotSum (quarterTurns R) s
 slot-exact R unused free = refl

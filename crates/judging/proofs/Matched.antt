@@ -1,57 +1,19 @@
--- Whether two points are the same, asked by their order; and whether two rings match, asked of one point after the other. Assumes nothing.
+-- Whether two rings match, asked of one point after the other. Assumes nothing.
 use Prim.Native.Nat.{ℕ, suc, _+_, _-_, _≤_, _<_}
-use native.Mathlib.Decide.{decLt, ℕ-discrete}
 use native.Mathlib.Omega.{arith}
-use mathlib.Core.Path.{_≡_, refl, sym, ap, _∙_}
-use mathlib.Core.Bool.{Bool, true, false, _&&_}
+use mathlib.Core.Path.{_≡_, sym, ap, _∙_}
+use mathlib.Core.Bool.{Bool, true, false}
 use mathlib.Core.List.{List}
-use lib.Dec.{eqb, leb}
-use lib.IntN.{ℤ, pos, negsuc}
 use lib.ListN.{length, length-append}
-use lib.Signed.{leZ}
-use borrow.Author.Tests.{eq-eqb, ne-eqb, le-leb, lt-leb}
-use Rattle.exact.specs.Sign.{eqZ}
 use Rattle.ring.specs.declared.Point.{Point}
 use Rattle.ring.specs.Choices.{pick}
 use Rattle.ring.specs.Rings.{at}
 use Rattle.ring.specs.Segment.{same}
-use Rattle.districts.proofs.Tests.{stops, refuted}
+use Rattle.districts.proofs.Tests.{refuted}
 use Rattle.districts.proofs.Counting.{all-pass, all-each}
 use Rattle.room.specs.Runs.{run}
 use Rattle.room.proofs.Written.{run-length}
 use Rattle.judging.specs.Merging.{matches, merged}
-
--- ---- one point
-
-one-fails : (a : Bool) {b : Bool} → b ≡ false → (a && b) ≡ false
-one-fails true e = e
-one-fails false e = refl
-
--- each is at most the other
-both-most : (a b : ℕ) → (leb a b && leb b a) ≡ eqb a b
-both-most a b = elim (ℕ-discrete a b) [
-  | yes same ↦ (λ i. le-leb a b (omega arith) i && le-leb b a (omega arith) i) ∙ sym (eq-eqb a b same)
-  | no differ ↦ elim (decLt a b) [
-    | yes less ↦ one-fails (leb a b) (lt-leb b a less)
-    | no more ↦ stops (lt-leb a b (omega (arith, differ, more))) (leb b a)
-  ] ∙ sym (ne-eqb a b differ)
-]
-
-both-most-back : (a b : ℕ) → (leb b a && leb a b) ≡ eqb a b
-both-most-back a b = both-most b a ∙ elim (ℕ-discrete a b) [
-  | yes same ↦ eq-eqb b a (sym same) ∙ sym (eq-eqb a b same)
-  | no differ ↦ ne-eqb b a (λ e. differ (sym e)) ∙ sym (ne-eqb a b differ)
-]
-
-both-at-most : (a b : ℤ) → (leZ a b && leZ b a) ≡ eqZ a b
-both-at-most (pos a) (pos b) = both-most a b
-both-at-most (pos a) (negsuc b) = refl
-both-at-most (negsuc a) (pos b) = refl
-both-at-most (negsuc a) (negsuc b) = both-most-back a b
-
-pub same-by-order : (P Q : Point) → ((leZ (P .x) (Q .x) && leZ (Q .x) (P .x)) && (leZ (P .y) (Q .y) && leZ (Q .y) (P .y))) ≡ same P Q
-unfolding same
-same-by-order P Q = λ i. both-at-most (P .x) (Q .x) i && both-at-most (P .y) (Q .y) i
 
 -- ---- all points of the border, of which the second ring has m vertices
 

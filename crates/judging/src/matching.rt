@@ -14,13 +14,6 @@ ghost use Rattle.refusals.specs.Verdicts.{verdict, verdictOf};
 ghost use Rattle.districts.specs.Lent.{GoodRuns};
 ghost use Rattle.judging.specs.Merging.{matches as matchAll, mergeTests};
 ghost use Rattle.judging.specs.Judging.{borderTests, pairTests};
-use ring::Point;
-
-fn same(p: Point, q: Point) -> bool
-    ensures { λ r. ⌜ r ≡ samePoint p q ⌝ }
-{
-    ((p.x <= q.x) & (q.x <= p.x)) & ((p.y <= q.y) & (q.y <= p.y))
-}
 
 // Whether vertex a + t of a ring of n is vertex b - t of one of m.
 fn meets(ring: &[i32], n: usize, a: usize, other: &[i32], m: usize, b: usize, t: usize) -> bool
@@ -30,7 +23,7 @@ fn meets(ring: &[i32], n: usize, a: usize, other: &[i32], m: usize, b: usize, t:
 {
     let p = ring::vertex(ring, room::around(a + t, n));
     let q = ring::vertex(other, room::around(b + m - t, m));
-    same(p, q)
+    ring::same(p, q)
 }
 
 // Whether the rings match along k edges: in all k + 1 points, the one going forward and the other backward.

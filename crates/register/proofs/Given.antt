@@ -16,7 +16,7 @@ use Rattle.districts.specs.Answers as Answers
 use Rattle.districts.specs.Answers.{Answer, report}
 use Rattle.districts.proofs.Sound.{runs-length}
 use Rattle.districts.proofs.Meaning.{slot-is}
-use Rattle.register.specs.Sorting.{rests, winds, ofSlot, onBorder, windsAbout, sortedBy, belongsTo, pointTests, given, assigned}
+use Rattle.register.specs.Sorting.{liesTo, sortedBy, belongsTo, pointTests, given, assigned}
 
 module _ (good : Bool) (g : Register) (r : ℕ) (a b : ℤ) where
   pub answer-refused : (n : ℕ) → verdict (beginning good g) ≡ refuse n → Answers.refused n ≡ assigned good g r a b
@@ -37,8 +37,8 @@ module _ (a b : ℤ) (x : Answer) where
 
 module _ (outline store : List ℤ) (runs : List ℕ) (good : wellFormed outline store runs ≡ true) where
   -- sorting by the runs is sorting by the register that they mean
-  pub sorted-is : (R : Point) → sortedBy (λ d. ofSlot rests R (district store runs d)) (λ d. ofSlot winds R (district store runs d)) ≡ belongsTo (meaning outline store runs) R
-  unfolding belongsTo onBorder windsAbout
+  pub sorted-is : (R : Point) → sortedBy (λ d. liesTo R (district store runs d)) ≡ belongsTo (meaning outline store runs) R
+  unfolding belongsTo
   sorted-is R =
       let slots = slot-is outline store runs (runs-length outline store runs good) in
-      λ i. sortedBy (λ d. ofSlot rests R (sym (slots d) i)) (λ d. ofSlot winds R (sym (slots d) i))
+      λ i. sortedBy (λ d. liesTo R (sym (slots d) i))

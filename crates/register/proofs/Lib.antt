@@ -1,5 +1,6 @@
 pub mod Sorts
 pub mod Given
+pub mod Borders
 pub mod Founds
 pub mod ByPosition
 pub mod Unique

@@ -8,13 +8,13 @@ use Rattle.ring.specs.Grid.{vertices}
 use Rattle.ring.specs.Rings.{at, total, ringSum}
 use Rattle.ring.specs.Turns.{quadrant, determinant, quarterTurns, winding}
 use Rattle.ring.specs.Segment.{same, onSegment}
-use Rattle.ring.specs.Locate.{lowest, locatedOn}
+use Rattle.ring.specs.Locate.{vertex, lowest, highest, locatedOn}
 use Rattle.ring.specs.Known.{square}
 use Rattle.districts.specs.Counts.{sumTo, listTo}
 use Rattle.districts.specs.Register.{Register, unused}
 use Rattle.districts.specs.Answers.{Answer, report, refused, border, one, none}
 use Rattle.refusals.specs.Verdicts.{verdict}
-use Rattle.register.specs.Sorting.{onBorder, windsAbout, belongsTo}
+use Rattle.register.specs.Sorting.{belongsTo}
 use Rattle.register.specs.Founding.{founded}
 use Rattle.register.specs.declared.Position.{Position}
 use Rattle.register.specs.declared.Position.the-variants.{Grid, Fix, Missing}
@@ -48,8 +48,8 @@ pub by-position :
     (asked (Grid (pos 2) (pos 2)) ∷ asked (fix two two) ∷ asked (fix four four) ∷ asked (fix (fin true 1 (negsuc 7)) two)
     ∷ asked Missing ∷ asked (fix nan huge) ∷ asked (fix huge (inf true)) ∷ asked (fix far two) ∷ asked (fix two huge) ∷ asked (Grid (pos 0) (negsuc 1_000_000_000))
     ∷ assignedAt true nowhere 7 Missing ∷ assignedAt true nowhere 7 (fix nan nan) ∷ assignedAt false nowhere 7 Missing ∷ [])
-    (report 7 (one 0) ∷ report 7 (one 0) ∷ report 7 (border 0) ∷ report 7 none
+    (report 7 (one 0) ∷ report 7 (one 0) ∷ report 7 (border 0 (vertex 2 2)) ∷ report 7 none
     ∷ refused 19 ∷ refused 18 ∷ refused 18 ∷ refused 5 ∷ refused 5 ∷ refused 5
     ∷ refused 2 ∷ refused 2 ∷ refused 1 ∷ [])
-unfolding assignedAt verdict belongsTo onBorder windsAbout founded sumTo listTo locatedOn lowest vertices at total ringSum quadrant determinant quarterTurns winding same onSegment
+unfolding assignedAt verdict belongsTo founded sumTo listTo locatedOn lowest highest vertices at total ringSum quadrant determinant quarterTurns winding same onSegment
 by-position = refl

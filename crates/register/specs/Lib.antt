@@ -1,4 +1,5 @@
 pub mod Sorting
+pub mod Standing
 pub mod Placing
 pub mod Founding
 pub mod Calls

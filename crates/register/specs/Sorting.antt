@@ -8,7 +8,7 @@ use Rattle.exact.specs.Sign.{eqZ}
 use Rattle.ring.specs.declared.Point.{Point}
 use Rattle.ring.specs.Grid.{point, beyond}
 use Rattle.ring.specs.Choices.{pick, count}
-use Rattle.ring.specs.Locate.{Place, vertex, edge, off, refused, lowest, locatedOn}
+use Rattle.ring.specs.Locate.{Touch, vertex, Place, on, off, refused, lowest, locatedOn}
 use Rattle.districts.specs.Counts.{sumTo}
 use Rattle.districts.specs.Register.{Slot, unused, ring, Register, numbers, slot}
 use Rattle.districts.specs.Lent.{beginning}
@@ -18,40 +18,43 @@ use Rattle.refusals.specs.Verdicts.{Test, _if_, Verdict, accept, refuse, verdic
 
 -- on a ring: at a vertex or on an edge
 abbrev pub rests : Place → Bool
-rests (vertex i) = true
-rests (edge i) = true
+rests (on t) = true
 rests (off w o) = false
 rests (refused n) = false
 
 -- off a ring, with a winding number that is not 0
 abbrev pub winds : Place → Bool
-winds (vertex i) = false
-winds (edge i) = false
+winds (on t) = false
 winds (off w o) = not (eqZ w (pos 0))
 winds (refused n) = false
 
--- whether a test of places holds of R and the ring of a number; it does not where the number is unused
-abbrev pub ofSlot : (Place → Bool) → Point → Slot → Bool
-ofSlot p R unused = false
-ofSlot p R (ring P) = p (locatedOn P R)
+-- where on a ring; off it the answer has no meaning
+abbrev pub restsAt : Place → Touch
+restsAt (on t) = t
+restsAt (off w o) = vertex 0 0
+restsAt (refused n) = vertex 0 0
 
--- R is on the ring of district d
-unfoldable pub onBorder : Register → Point → ℕ → Bool
-onBorder g R d = ofSlot rests R (slot g d)
+-- where R lies to the ring of a number; to an unused one it lies off, and nothing winds about it
+abbrev pub liesTo : Point → Slot → Place
+liesTo R unused = off (pos 0) false
+liesTo R (ring P) = locatedOn P R
 
--- R has a winding number about district d that is not 0
-unfoldable pub windsAbout : Register → Point → ℕ → Bool
-windsAbout g R d = ofSlot winds R (slot g d)
+-- by how many numbers it winds about, m, of which l is the lowest
+abbrev pub byCount : ℕ → ℕ → Belongs
+byCount m l = pick (eqb m 0) none (pick (eqb m 1) (one l) (several l m))
 
--- Border(b) for the lowest number b on whose border it is; otherwise by how many numbers it winds about, m, of which l is the lowest
-abbrev pub sorted : ℕ → ℕ → ℕ → Belongs
-sorted b m l = pick (ltb b numbers) (border b) (pick (eqb m 0) none (pick (eqb m 1) (one l) (several l m)))
+-- Border(b) for the lowest number b on whose ring it is, and t where on that ring; otherwise by how many it winds about
+abbrev pub sorted : ℕ → Touch → ℕ → ℕ → Belongs
+sorted b t m l = pick (ltb b numbers) (border b t) (byCount m l)
 
-abbrev pub sortedBy : (ℕ → Bool) → (ℕ → Bool) → Belongs
-sortedBy on about = sorted (lowest on numbers 0) (sumTo numbers (λ d. count (about d))) (lowest about numbers 0)
+-- by where a point lies to each number
+abbrev pub sortedBy : (ℕ → Place) → Belongs
+sortedBy place =
+    let b = lowest (λ d. rests (place d)) numbers 0 in
+    sorted b (restsAt (place b)) (sumTo numbers (λ d. count (winds (place d)))) (lowest (λ d. winds (place d)) numbers 0)
 
 unfoldable pub belongsTo : Register → Point → Belongs
-belongsTo g R = sortedBy (onBorder g R) (windsAbout g R)
+belongsTo g R = sortedBy (λ d. liesTo R (slot g d))
 
 -- refusal 5
 abbrev pub pointTests : ℤ → ℤ → List Test

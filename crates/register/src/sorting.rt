@@ -7,27 +7,30 @@ use refusals::Refusal;
 use refusals::Verdict;
 use ring::Located;
 use ring::Point;
+use ring::Touch;
 use ring::Winding;
 ghost use mathlib.Core.Path.{_≡_};
-ghost use mathlib.Core.Bool.{not, _&&_};
+ghost use mathlib.Core.Bool.{Bool, not};
 ghost use Prim.Native.Nat.{_+_, _<_};
 ghost use lib.Dec.{leb};
 ghost use lib.IntN.{pos};
 ghost use Rattle.exact.specs.Sign.{eqZ};
-ghost use Rattle.ring.specs.Choices.{pick, count};
-ghost use Rattle.ring.specs.Locate.{placeOf};
+ghost use Rattle.ring.specs.Choices.{pick};
+ghost use Rattle.ring.specs.Locate.{off, placeOf};
 ghost use Rattle.ring.specs.Walk.{OnGrid};
 ghost use Rattle.districts.specs.Lists.{district, meaning};
 ghost use Rattle.districts.specs.WellFormed.{wellFormed};
 ghost use Rattle.refusals.specs.Verdicts.{verdict};
 ghost use Rattle.districts.specs.Answers.{belongs, report, answerOf};
-ghost use Rattle.register.specs.Sorting.{rests, winds, ofSlot, sorted, sortedBy, pointTests, given, assigned};
+ghost use Rattle.register.specs.Sorting.{liesTo, byCount, sortedBy, pointTests, given, assigned};
+ghost use Rattle.register.specs.Standing.{Stands};
 ghost use Rattle.districts.specs.Lent.{GoodRuns};
 
 // How a point lies to one district.
-struct Stance {
-    border: bool,
-    inside: bool,
+enum Stance {
+    On(Touch),
+    Inside,
+    Outside,
 }
 
 // The districts that a point winds about: the lowest, or NUMBERS where there is none, and how many.
@@ -42,26 +45,23 @@ fn turned(w: Winding) -> bool
     (w.0 < 0) | (0 < w.0)
 }
 
-fn lies_at(place: Located) -> Stance
-    ensures { λ l. ⌜ (l .border ≡ rests (placeOf place)) × (l .inside ≡ winds (placeOf place)) ⌝ }
+// Off a ring, by the winding number.
+fn apart(w: Winding) -> Stance
+    ensures { λ s. ⌜ ((o : Bool) → Stands s (off (w .0) o)) ⌝ }
+{
+    if turned(w) {
+        return Stance::Inside;
+    }
+    Stance::Outside
+}
+
+fn lying(place: Located) -> Stance
+    ensures { λ s. ⌜ Stands s (placeOf place) ⌝ }
 {
     match place {
-        Located::Vertex(_) => Stance {
-            border: true,
-            inside: false,
-        },
-        Located::Edge(_) => Stance {
-            border: true,
-            inside: false,
-        },
-        Located::Off(w, _) => Stance {
-            border: false,
-            inside: turned(w),
-        },
-        Located::Refused(_) => Stance {
-            border: false,
-            inside: false,
-        },
+        Located::On(touch) => Stance::On(touch),
+        Located::Off(w, _) => apart(w),
+        Located::Refused(_) => Stance::Outside,
     }
 }
 
@@ -70,28 +70,23 @@ fn lies(store: &[i32], runs: &[u32], d: usize, r: Point) -> Stance
     requires { ⌜ GoodRuns (now store) (now runs) ⌝ }
     requires { ⌜ d < 64 ⌝ }
     requires { ⌜ OnGrid r ⌝ }
-    ensures { λ l. ⌜ (l .border ≡ ofSlot rests r (district (now (store .entry)) (now (runs .entry)) d)) × (l .inside ≡ ofSlot winds r (district (now (store .entry)) (now (runs .entry)) d)) ⌝ }
+    ensures { λ s. ⌜ Stands s (liesTo r (district (now (store .entry)) (now (runs .entry)) d)) ⌝ }
 {
     let n = districts::size(runs, d);
     if n == 0 {
-        return Stance {
-            border: false,
-            inside: false,
-        };
+        return Stance::Outside;
     }
     let from = 2 * districts::first_place(runs, d);
     let to = from + 2 * n;
-    lies_at(ring::locate_on(&store[from..to], n, r))
+    lying(ring::locate_on(&store[from..to], n, r))
 }
 
 impl Seen {
-    fn with(self, d: usize, inside: bool) -> Seen
+    // With one number more.
+    fn with(self, d: usize) -> Seen
         requires { ⌜ self .many < 64 ⌝ }
-        ensures { λ s. ⌜ (s .many ≡ self .many + count inside) × (s .lowest ≡ pick (inside && leb 64 (self .lowest)) d (self .lowest)) ⌝ }
+        ensures { λ s. ⌜ (s .many ≡ self .many + 1) × (s .lowest ≡ pick (leb 64 (self .lowest)) d (self .lowest)) ⌝ }
     {
-        if !inside {
-            return self;
-        }
         let many = self.many + 1;
         if NUMBERS <= self.lowest {
             return Seen { lowest: d, many };
@@ -104,7 +99,7 @@ impl Seen {
 
     // The class of a point on no border.
     fn class(self) -> Class
-        ensures { λ c. ⌜ belongs c ≡ sorted 64 (self .many) (self .lowest) ⌝ }
+        ensures { λ c. ⌜ belongs c ≡ byCount (self .many) (self .lowest) ⌝ }
     {
         let many = self.many;
         if many == 0 {
@@ -120,7 +115,7 @@ impl Seen {
 fn sort(store: &[i32], runs: &[u32], r: Point) -> Class
     requires { ⌜ GoodRuns (now store) (now runs) ⌝ }
     requires { ⌜ OnGrid r ⌝ }
-    ensures { λ c. ⌜ belongs c ≡ sortedBy (λ d. ofSlot rests r (district (now (store .entry)) (now (runs .entry)) d)) (λ d. ofSlot winds r (district (now (store .entry)) (now (runs .entry)) d)) ⌝ }
+    ensures { λ c. ⌜ belongs c ≡ sortedBy (λ d. liesTo r (district (now (store .entry)) (now (runs .entry)) d)) ⌝ }
 {
     let mut seen = Seen {
         lowest: NUMBERS,
@@ -128,11 +123,11 @@ fn sort(store: &[i32], runs: &[u32], r: Point) -> Class
     };
     let mut d = 0;
     while d < NUMBERS {
-        let l = lies(store, runs, d, r);
-        if l.border {
-            return Class::Border(d);
+        match lies(store, runs, d, r) {
+            Stance::On(touch) => return Class::Border(d, touch),
+            Stance::Inside => seen = seen.with(d),
+            Stance::Outside => {}
         }
-        seen = seen.with(d, l.inside);
         d += 1;
     }
     seen.class()
@@ -141,7 +136,7 @@ fn sort(store: &[i32], runs: &[u32], r: Point) -> Class
 // Where report `number` at r belongs, in a register that is well-formed and has an outline.
 fn place(store: &[i32], runs: &[u32], number: u32, r: Point) -> Assigned
     requires { ⌜ GoodRuns (now store) (now runs) ⌝ }
-    ensures { λ a. ⌜ answerOf a ≡ given (verdict (pointTests (r .x) (r .y))) (report number (sortedBy (λ d. ofSlot rests r (district (now (store .entry)) (now (runs .entry)) d)) (λ d. ofSlot winds r (district (now (store .entry)) (now (runs .entry)) d)))) ⌝ }
+    ensures { λ a. ⌜ answerOf a ≡ given (verdict (pointTests (r .x) (r .y))) (report number (sortedBy (λ d. liesTo r (district (now (store .entry)) (now (runs .entry)) d)))) ⌝ }
 {
     if ring::beyond(r.x) | ring::beyond(r.y) {
         return Assigned::Refused(Refusal::BeyondGrid);

@@ -13,36 +13,35 @@ use Rattle.ring.specs.Grid.{point, beyond, someBeyond, vertices, noRing}
 use Rattle.ring.specs.Choices.{pick}
 use Rattle.ring.specs.Rings.{ringSum}
 use Rattle.ring.specs.Turns.{quarterTurns, winding, oddly}
-use Rattle.ring.specs.Locate.{Place, vertex, edge, off, refused, lowest, atVertex, onEdge, choose, locatedOn, located}
+use Rattle.ring.specs.Locate.{Place, vertex, edge, on, off, refused, lowest, highest, atVertex, onEdge, touching, locatedOn, located}
 use Rattle.ring.proofs.Vertices.{length-at-least}
 use Rattle.ring.proofs.Pick.{neither-left, neither-right}
 use Rattle.ring.proofs.Crossings.{crossings-turns, crossings-winding}
 use Rattle.ring.proofs.Search.{lowest-over}
 
-pub winding-exact : (P : List Point) (R : Point) (some : 0 < length P) (free : (i : ℕ) → i < length P → (atVertex P R i ≡ false) × (onEdge P R i ≡ false)) → pos 4 *ℤ winding P R ≡ ringSum (quarterTurns R) P
-winding-exact P R some free =
-    let off-edges : (i : ℕ) → i < length P → onEdge P R i ≡ false = λ i h. free i h .1 in
-    ap (λ (w : ℤ). pos 4 *ℤ w) (sym (crossings-winding P R some off-edges)) ∙ sym (crossings-turns P R some off-edges)
+pub winding-exact : (P : List Point) (R : Point) → 0 < length P → ((i : ℕ) → i < length P → onEdge P R i ≡ false) → pos 4 *ℤ winding P R ≡ ringSum (quarterTurns R) P
+winding-exact P R some free = ap (λ (w : ℤ). pos 4 *ℤ w) (sym (crossings-winding P R some free)) ∙ sym (crossings-turns P R some free)
 
 -- ---- the same of an answer Off
 
--- such an answer comes where both searches found nothing
-choose-off : (n v e : ℕ) (w z : ℤ) (o : Bool) → choose n v e z ≡ off w o → (n ≤ v) × (n ≤ e) × (z ≡ w)
-choose-off n v e w z o = go (ltb v n) (ltb e n) (ltb-false v n) (ltb-false e n)
+-- such an answer comes where no edge was found
+past-edges : (n v v′ e e′ : ℕ) (w z : ℤ) (o : Bool) → touching vertex n v v′ (touching edge n e e′ (off z (oddly z))) ≡ off w o → (n ≤ e) × (z ≡ w)
+past-edges n v v′ e e′ w z o = go (ltb v n) (ltb e n) (ltb-false e n)
   where
-    go : (a b : Bool) → (a ≡ false → n ≤ v) → (b ≡ false → n ≤ e) → pick a (vertex v) (pick b (edge e) (off z (oddly z))) ≡ off w o → (n ≤ v) × (n ≤ e) × (z ≡ w)
-    go true b f g h = let clash : _≡_ {A = ℕ} 0 1 = cc in absurd (let f : ⊥ = omega arith in f)
-    go false true f g h = let clash : _≡_ {A = ℕ} 0 1 = cc in absurd (let f : ⊥ = omega arith in f)
-    go false false f g h = (f refl, g refl, cc)
+    go : (a b : Bool) → (b ≡ false → n ≤ e) → pick a (on (vertex v v′)) (pick b (on (edge e e′)) (off z (oddly z))) ≡ off w o → (n ≤ e) × (z ≡ w)
+    go true b g h = let clash : _≡_ {A = ℕ} 0 1 = cc in absurd (let f : ⊥ = omega arith in f)
+    go false true g h = let clash : _≡_ {A = ℕ} 0 1 = cc in absurd (let f : ⊥ = omega arith in f)
+    go false false g h = (g refl, cc)
 
-off-said : (P : List Point) (R : Point) (w : ℤ) (o : Bool) → locatedOn P R ≡ off w o → (length P ≤ lowest (atVertex P R) (length P) 0) × (length P ≤ lowest (onEdge P R) (length P) 0) × (winding P R ≡ w)
+off-said : (P : List Point) (R : Point) (w : ℤ) (o : Bool) → locatedOn P R ≡ off w o → (length P ≤ lowest (onEdge P R) (length P) 0) × (winding P R ≡ w)
 unfolding locatedOn
-off-said P R w o e = choose-off (length P) (lowest (atVertex P R) (length P) 0) (lowest (onEdge P R) (length P) 0) w (winding P R) o e
+off-said P R w o e =
+    past-edges (length P) (lowest (atVertex P R) (length P) 0) (highest (atVertex P R) (length P)) (lowest (onEdge P R) (length P) 0) (highest (onEdge P R) (length P)) w (winding P R) o e
 
 pub off-exact : (P : List Point) (R : Point) (w : ℤ) (o : Bool) → 0 < length P → locatedOn P R ≡ off w o → pos 4 *ℤ w ≡ ringSum (quarterTurns R) P
 off-exact P R w o some e =
     let s = off-said P R w o e in
-    ap (λ (z : ℤ). pos 4 *ℤ z) (sym (s .2)) ∙ winding-exact P R some (λ i h. (lowest-over (atVertex P R) (length P) (s .0) i h, lowest-over (onEdge P R) (length P) (s .1) i h))
+    ap (λ (z : ℤ). pos 4 *ℤ z) (sym (s .1)) ∙ winding-exact P R some (lowest-over (onEdge P R) (length P) (s .0))
 
 -- an answer Off of `located` is no refusal
 accepted : (a b : Bool) (l : Place) (w : ℤ) (o : Bool) → pick a (refused 4) (pick b (refused 5) l) ≡ off w o → (a ≡ false) × (l ≡ off w o)

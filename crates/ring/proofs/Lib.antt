@@ -3,11 +3,13 @@ pub mod Vertices
 pub mod OnGrid
 pub mod Quadrants
 pub mod Search
+pub mod Spans
 pub mod Sums
 pub mod Crossings
 pub mod Fours
 pub mod Walks
 pub mod Settled
 pub mod Segments
+pub mod Touches
 pub mod Known
 pub mod Unique

@@ -5,7 +5,7 @@ use native.Mathlib.Omega.{arith}
 use mathlib.Core.Path.{_≡_, refl, sym, ap, _∙_, subst}
 use mathlib.Core.Bool.{Bool, true, false, not, _&&_, _||_, Bool·beq}
 use lib.Dec.{T, eqb, eqb→eq, eqb·suc-zero}
-use lib.IntN.{ℤ, pos, negsuc, negℤ, _-ℤ_, _*ℤ_}
+use lib.IntN.{ℤ, pos, negsuc, negℤ, _-ℤ_, _*ℤ_, +ℤ-idr}
 use lib.Signed.{leZ}
 use Rattle.exact.specs.Sign.{Sign, minus, nought, plus, sign, eqZ}
 use Rattle.exact.proofs.Parts.{parts-sub, parts-neg, by-parts}
@@ -87,6 +87,10 @@ same-signs R P i = eq-sign (R .x) (P .x) i && eq-sign (R .y) (P .y) i
 
 between-signs : (a p q : ℤ) → between a p q ≡ betweenBy (sign (p -ℤ a)) (sign (q -ℤ a))
 between-signs a p q i = (ge-sign a p i && le-sign a q i) || (ge-sign a q i && le-sign a p i)
+
+-- seen from a itself
+pub between-seen : (a p q : ℤ) → between (pos 0) (p -ℤ a) (q -ℤ a) ≡ between a p q
+between-seen a p q = between-signs (pos 0) (p -ℤ a) (q -ℤ a) ∙ (λ i. betweenBy (sign (+ℤ-idr (p -ℤ a) i)) (sign (+ℤ-idr (q -ℤ a) i))) ∙ sym (between-signs a p q)
 
 zero-sign : (z : ℤ) → eqZ z (pos 0) ≡ isNought (sign z)
 zero-sign (pos zero) = refl

@@ -1,14 +1,15 @@
--- The lowest index that passes a test: what an answer says, a search that ends at the first hit, and one that goes on to the end. Assumes nothing.
+-- The lowest and the highest index that passes a test: what an answer says, a search that ends at the first hit, and one that goes on to the end. Assumes nothing.
 use Prim.Native.Nat.{ℕ, zero, suc, _+_, _≤_, _<_}
 use native.Mathlib.Omega.{arith}
 use native.Mathlib.Nat.{zero-add}
 use native.Mathlib.Decide.{ℕ-discrete}
-use mathlib.Core.Path.{_≡_, refl, sym, _∙_, subst}
+use mathlib.Core.Path.{_≡_, refl, sym, ap, _∙_, subst}
 use mathlib.Core.Bool.{Bool, true, false, _&&_, true≢false}
 use lib.Dec.{leb}
 use borrow.Author.Tests.{leb-true, leb-false}
 use Rattle.ring.specs.Choices.{pick}
-use Rattle.ring.specs.Locate.{lowest}
+use Rattle.ring.specs.Locate.{lowest, highest}
+use Rattle.ring.proofs.Pick.{pick-true, pick-false}
 
 -- ---- what an answer says
 
@@ -74,6 +75,34 @@ unmet-hit p n i h e u = sym (lowest-first p n i u h e)
 
 pub unmet-all : (p : ℕ → Bool) (n i : ℕ) → n ≤ i → Unmet p i → n ≡ lowest p n 0
 unmet-all p n i h u = sym (lowest-none p n 0 (λ j g l. u j (omega arith)) ∙ zero-add n)
+
+-- ---- the highest index that passes, looked for from the end
+
+pub highest-none : (p : ℕ → Bool) → highest p 0 ≡ 0
+unfolding highest
+highest-none p = refl
+
+pub highest-hit : (p : ℕ → Bool) (k : ℕ) → p k ≡ true → highest p (suc k) ≡ k
+unfolding highest
+highest-hit p k e = pick-true e _ _
+
+pub highest-miss : (p : ℕ → Bool) (k : ℕ) → p k ≡ false → highest p (suc k) ≡ highest p k
+unfolding highest
+highest-miss p k e = pick-false e _ _
+
+-- where one of the indices below n passes, the highest is below n and passes, and none above it does
+pub highest-is : (p : ℕ → Bool) (n i : ℕ) → i < n → p i ≡ true → (highest p n < n) × (p (highest p n) ≡ true) × ((j : ℕ) → j < n → p j ≡ true → j ≤ highest p n)
+unfolding highest
+highest-is p zero i h e = absurd (let f : ⊥ = omega arith in f)
+highest-is p (suc k) i h e = step (p k) refl (λ f. highest-is p k i (lower i h e f) e)
+  where
+    -- an index that passes is not k where k fails
+    lower : (j : ℕ) → j < suc k → p j ≡ true → p k ≡ false → j < k
+    lower j g t f = elim (ℕ-discrete j k) [ yes s ↦ absurd (true≢false (sym t ∙ ap p s ∙ f)) | no s ↦ omega arith ]
+
+    step : (b : Bool) → p k ≡ b → (p k ≡ false → (highest p k < k) × (p (highest p k) ≡ true) × ((j : ℕ) → j < k → p j ≡ true → j ≤ highest p k)) → (pick b k (highest p k) < suc k) × (p (pick b k (highest p k)) ≡ true) × ((j : ℕ) → j < suc k → p j ≡ true → j ≤ pick b k (highest p k))
+    step true f rest = (omega arith, f, λ j g l. omega arith)
+    step false f rest = let l = rest f in (omega (arith, l .0), l .1, λ j g t. l .2 j (lower j g t f) t)
 
 -- ---- a search that goes on to the end and notes the lowest hit
 

@@ -5,20 +5,28 @@ use lib.IntN.{ℤ}
 use Rattle.ring.specs.declared.Parity.the-variants.{Even, Odd}
 use Rattle.refusals.proofs.Numbers.{refusalOf, refusal-back}
 use Rattle.ring.specs.declared.Located.{Located}
-use Rattle.ring.specs.declared.Located.the-variants.{Vertex, Edge, Off, Refused}
+use Rattle.ring.specs.declared.Located.the-variants.{On, Off, Refused}
+use Rattle.ring.specs.declared.Touch as CodeTouch
+use Rattle.ring.specs.declared.Touch.the-variants.{Vertex, Edge}
 use Rattle.ring.specs.Choices.{pick}
-use Rattle.ring.specs.Locate.{Place, vertex, edge, off, refused, located, placeOf}
+use Rattle.ring.specs.Locate.{Touch, vertex, edge, Place, on, off, refused, located, touchOf, placeOf}
 
 -- the code's answer that says a place: the rules' numbers and values are read back
+abbrev pub codeTouch : Touch → CodeTouch.Touch
+codeTouch (vertex i j) = Vertex i j
+codeTouch (edge i j) = Edge i j
+
+pub touch-back : (t : CodeTouch.Touch) → codeTouch (touchOf t) ≡ t
+touch-back (Vertex i j) = refl
+touch-back (Edge i j) = refl
+
 abbrev answerOf : Place → Located
-answerOf (vertex i) = Vertex i
-answerOf (edge i) = Edge i
+answerOf (on t) = On (codeTouch t)
 answerOf (off w odd) = Off (record { 0 = w }) (pick odd Odd Even)
 answerOf (refused n) = Refused (refusalOf n)
 
 answer-place : (r : Located) → answerOf (placeOf r) ≡ r
-answer-place (Vertex i) = refl
-answer-place (Edge i) = refl
+answer-place (On t) = ap On (touch-back t)
 answer-place (Off w Even) = refl
 answer-place (Off w Odd) = refl
 answer-place (Refused r) = ap Refused (refusal-back r)

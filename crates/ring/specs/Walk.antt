@@ -1,8 +1,9 @@
 -- What the functions that go round a ring ask and promise one another; no public promise cites it. Assumes nothing.
 use Prim.Native.Nat.{ℕ, _+_, _≤_, _<_}
 use mathlib.Core.Path.{_≡_}
-use mathlib.Core.Bool.{true, false}
+use mathlib.Core.Bool.{Bool, true, false, _&&_}
 use mathlib.Core.List.{List}
+use lib.Dec.{ltb}
 use lib.ListN.{length}
 use lib.IntN.{ℤ, pos, natAbs, _+ℤ_, _-ℤ_}
 use lib.Signed.{ltZ}
@@ -11,12 +12,15 @@ use Rattle.exact.specs.Sign.{eqZ, Short, cross}
 use Rattle.ring.specs.declared.Point.{Point}
 use Rattle.ring.specs.declared.counting.End.{End}
 use Rattle.ring.specs.declared.counting.Count.{Count}
+use Rattle.ring.specs.declared.places.Span.{Span}
+use Rattle.ring.specs.declared.places.Met.{Met}
 use Rattle.ring.specs.Grid.{someBeyond, vertices}
 use Rattle.ring.specs.Choices.{pick, count}
 use Rattle.ring.specs.Rings.{at, total}
 use Rattle.ring.specs.Turns.{winding}
 use Rattle.ring.specs.Crossings.{crossing, steps}
-use Rattle.ring.specs.Locate.{onEdge}
+use Rattle.ring.specs.Segment.{between}
+use Rattle.ring.specs.Locate.{lowest, highest, atVertex, onEdge}
 
 -- a point of the grid, by the sizes of its coordinates
 pub record OnGrid (p : Point) : Type 0 where
@@ -42,6 +46,10 @@ pub record Way (R P : Point) (a : Arrow) : Type 0 where
   pub x : a .x ≡ P .x -ℤ R .x
   pub y : a .y ≡ P .y -ℤ R .y
   pub short : Short a
+
+-- the ends of two ways from R are in line with it, and it is between them
+abbrev pub inLine : Arrow → Arrow → Bool
+inLine a b = eqZ (cross a b) (pos 0) && (between (pos 0) (a .x) (b .x) && between (pos 0) (a .y) (b .y))
 
 -- more than the crossings of any ring: each edge counts 1 at most
 abbrev pub mostTurns : ℕ
@@ -88,3 +96,11 @@ pub record Counted (P : List Point) (R : Point) (c : Count) : Type 0 where
   pub turns : Free P R 0 (length P) → c .turns ≡ winding P R
   pub clear : 0 < c .clear → Free P R 0 (length P)
   pub few : natAbs (c .turns) ≤ mostTurns
+
+-- the indices below n that pass a test
+abbrev pub span : (ℕ → Bool) → ℕ → Span
+span p n = record { lowest = lowest p n 0; highest = highest p n }
+
+-- the vertices that equal R, or else the edges that hold it
+abbrev pub metAt : List Point → Point → ℕ → Met
+metAt P R n = pick (ltb (lowest (atVertex P R) n 0) n) (record { vertex = true; at = span (atVertex P R) n }) (record { vertex = false; at = span (onEdge P R) n })

@@ -48,8 +48,7 @@ fn seen(ring: &[i32], r: Point, i: usize) -> End
     requires { ⌜ i < length (vertices (now ring)) ⌝ }
     ensures { λ e. ⌜ Sight r (at (vertices (now (ring .entry))) i) e ⌝ }
 {
-    let p = grid::vertex(ring, i);
-    marked(exact::between(r.x, r.y, p.x, p.y))
+    marked(grid::way(ring, r, i))
 }
 
 // What the ends differ by, if that counts.

@@ -1,4 +1,4 @@
-// Where a grid point lies against one closed ring: at a vertex, on an edge, or off the ring with its winding number, which is Hormann and
+// Where a grid point lies against one closed ring: at vertices, on edges, or off the ring with its winding number, which is Hormann and
 // Agathos' by quarter turns; the code counts crossings, which is proved to come to the same. The call for everybody is `locate`; it has no
 // `requires`. The crates above that know their rings to be good use `locate_on`, which tests nothing again.
 mod counting;
@@ -7,6 +7,7 @@ mod places;
 mod walk;
 
 pub use grid::beyond;
+pub use grid::same;
 pub use grid::some_beyond;
 pub use grid::vertex;
 use refusals::Refusal;
@@ -33,9 +34,14 @@ pub enum Parity {
     Odd,
 }
 
+// Where a point is on a ring: at vertices, or else on edges; the lowest index and the highest.
+pub enum Touch {
+    Vertex(usize, usize),
+    Edge(usize, usize),
+}
+
 pub enum Located {
-    Vertex(usize),
-    Edge(usize),
+    On(Touch),
     Off(Winding, Parity),
     Refused(Refusal),
 }
@@ -48,8 +54,8 @@ pub fn no_ring(m: usize) -> bool
     (m % 2 == 1) | ((n < FEWEST_VERTICES) | (MOST_VERTICES < n))
 }
 
-// Where the point (x, y) lies against the ring x0, y0, x1, y1, .. A vertex comes before an edge, a lower index before a
-// higher one, and the closing edge has the last index. A list that makes no ring is refused before a coordinate beyond the grid.
+// Where the point (x, y) lies against the ring x0, y0, x1, y1, .. Vertices come before edges, the lowest and the highest index are told, and the
+// closing edge has the last index. A list that makes no ring is refused before a coordinate beyond the grid.
 pub fn locate(ring: &[i32], x: i32, y: i32) -> Located
     ensures { λ r. ⌜ placeOf r ≡ located (now (ring .entry)) x y ⌝ }
 {

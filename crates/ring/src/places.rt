@@ -1,50 +1,98 @@
-// Which vertex a point r is, and which edge holds it: the lowest of each, or the number of vertices where there is none.
+// Where a point r is met on a ring: at vertices, or else on edges; of these the lowest index and the highest.
 use crate::Point;
 use crate::grid;
 ghost use mathlib.Core.Path.{_≡_};
 ghost use mathlib.Core.Bool.{_&&_};
+ghost use lib.Dec.{leb};
+ghost use lib.IntN.{pos};
+ghost use Rattle.exact.specs.Sign.{Short};
+ghost use Rattle.ring.specs.Choices.{pick};
 ghost use Rattle.ring.specs.Grid.{vertices};
-ghost use Rattle.ring.specs.Segment.{same as samePoint, between as isBetween, onSegment};
-ghost use Rattle.ring.specs.Locate.{lowest, atVertex, onEdge};
-ghost use Rattle.ring.specs.Walk.{OnGrid, Ready};
+ghost use Rattle.ring.specs.Segment.{between as isBetween};
+ghost use Rattle.ring.specs.Locate.{lowest, highest, atVertex, onEdge};
+ghost use Rattle.ring.specs.Walk.{Ready, span, metAt, inLine};
 
-fn same(r: Point, p: Point) -> bool
-    ensures { λ s. ⌜ s ≡ samePoint r p ⌝ }
-{
-    ((r.x <= p.x) & (p.x <= r.x)) & ((r.y <= p.y) & (p.y <= r.y))
+// The lowest and the highest of some indices; where there are none, the number of vertices and 0.
+pub struct Span {
+    pub lowest: usize,
+    pub highest: usize,
 }
 
-// Whether r lies between p and q in x and in y.
-fn beside(r: Point, p: Point, q: Point) -> bool
-    ensures { λ b. ⌜ b ≡ isBetween (r .x) (p .x) (q .x) && isBetween (r .y) (p .y) (q .y) ⌝ }
-{
-    (((p.x <= r.x) & (r.x <= q.x)) | ((q.x <= r.x) & (r.x <= p.x)))
-        & (((p.y <= r.y) & (r.y <= q.y)) | ((q.y <= r.y) & (r.y <= p.y)))
+// The vertices that are r, or else the edges that hold it.
+pub struct Met {
+    pub vertex: bool,
+    pub at: Span,
 }
 
-// Whether r is on the closed segment from p to q.
-fn holds(r: Point, p: Point, q: Point) -> bool
-    requires { ⌜ OnGrid r ⌝ }
-    requires { ⌜ OnGrid p ⌝ }
-    requires { ⌜ OnGrid q ⌝ }
-    ensures { λ h. ⌜ h ≡ onSegment r p q ⌝ }
+// Whether two ways from r end on both sides of it, or at it, in x and in y.
+fn beside(from: exact::Arrow, to: exact::Arrow) -> bool
+    ensures { λ b. ⌜ b ≡ (isBetween (pos 0) (from .x) (to .x) && isBetween (pos 0) (from .y) (to .y)) ⌝ }
 {
-    let to_p = exact::between(r.x, r.y, p.x, p.y);
-    let to_q = exact::between(r.x, r.y, q.x, q.y);
-    let d = exact::determinant(to_p, to_q);
+    (((from.x <= 0) & (0 <= to.x)) | ((to.x <= 0) & (0 <= from.x)))
+        & (((from.y <= 0) & (0 <= to.y)) | ((to.y <= 0) & (0 <= from.y)))
+}
+
+// Whether r is on the closed segment between the ends of two ways from it.
+fn holds(from: exact::Arrow, to: exact::Arrow) -> bool
+    requires { ⌜ Short from ⌝ }
+    requires { ⌜ Short to ⌝ }
+    ensures { λ h. ⌜ h ≡ inLine from to ⌝ }
+{
+    let d = exact::determinant(from, to);
     if (d.0 <= 0) & (0 <= d.0) {
-        return beside(r, p, q);
+        return beside(from, to);
     }
     false
 }
 
-pub fn lowest_vertex(ring: &[i32], n: usize, r: Point) -> usize
+impl Span {
+    // With one more index, above those that it has, on a ring of n vertices.
+    fn with(self, i: usize, n: usize) -> Span
+        ensures { λ s. ⌜ (s .lowest ≡ pick (leb n (self .lowest)) i (self .lowest)) × (s .highest ≡ i) ⌝ }
+    {
+        let lowest = if n <= self.lowest { i } else { self.lowest };
+        Span { lowest, highest: i }
+    }
+
+    // With edge i if it holds r; the ways lead to its ends.
+    fn along(self, i: usize, n: usize, from: exact::Arrow, to: exact::Arrow) -> Span
+        requires { ⌜ Short from × Short to ⌝ }
+        ensures { λ s. ⌜ (s .lowest ≡ pick (inLine from to) (pick (leb n (self .lowest)) i (self .lowest)) (self .lowest)) × (s .highest ≡ pick (inLine from to) i (self .highest)) ⌝ }
+    {
+        if holds(from, to) {
+            return self.with(i, n);
+        }
+        self
+    }
+}
+
+// All edges that hold r.
+fn edges(ring: &[i32], n: usize, r: Point) -> Span
+    requires { ⌜ Ready (now ring) n r ⌝ }
+    ensures { λ s. ⌜ s ≡ span (onEdge (vertices (now (ring .entry))) r) n ⌝ }
+{
+    let mut met = Span {
+        lowest: n,
+        highest: 0,
+    };
+    let mut from = grid::way(ring, r, 0);
+    let mut e = 0;
+    while e + 1 < n {
+        let to = grid::way(ring, r, e + 1);
+        met = met.along(e, n, from, to);
+        from = to;
+        e += 1;
+    }
+    met.along(e, n, from, grid::way(ring, r, 0))
+}
+
+fn lowest_vertex(ring: &[i32], n: usize, r: Point) -> usize
     requires { ⌜ Ready (now ring) n r ⌝ }
     ensures { λ l. ⌜ l ≡ lowest (atVertex (vertices (now (ring .entry))) r) n 0 ⌝ }
 {
     let mut v = 0;
     while v < n {
-        if same(r, grid::vertex(ring, v)) {
+        if grid::same(r, grid::vertex(ring, v)) {
             return v;
         }
         v += 1;
@@ -52,18 +100,36 @@ pub fn lowest_vertex(ring: &[i32], n: usize, r: Point) -> usize
     n
 }
 
-pub fn lowest_edge(ring: &[i32], n: usize, r: Point) -> usize
+fn highest_vertex(ring: &[i32], n: usize, r: Point) -> usize
     requires { ⌜ Ready (now ring) n r ⌝ }
-    ensures { λ l. ⌜ l ≡ lowest (onEdge (vertices (now (ring .entry))) r) n 0 ⌝ }
+    ensures { λ h. ⌜ h ≡ highest (atVertex (vertices (now (ring .entry))) r) n ⌝ }
 {
-    let mut e = 0;
-    while e < n {
-        let p = grid::vertex(ring, e);
-        let q = grid::vertex(ring, grid::next(e, n));
-        if holds(r, p, q) {
-            return e;
+    let mut left = n;
+    while 0 < left {
+        let v = left - 1;
+        if grid::same(r, grid::vertex(ring, v)) {
+            return v;
         }
-        e += 1;
+        left = v;
     }
-    n
+    0
+}
+
+// Where r is met. Vertices are looked for from both ends, which is quick; edges in one walk.
+pub fn find(ring: &[i32], n: usize, r: Point) -> Met
+    requires { ⌜ Ready (now ring) n r ⌝ }
+    ensures { λ m. ⌜ m ≡ metAt (vertices (now (ring .entry))) r n ⌝ }
+{
+    let lowest = lowest_vertex(ring, n, r);
+    if lowest < n {
+        let at = Span {
+            lowest,
+            highest: highest_vertex(ring, n, r),
+        };
+        return Met { vertex: true, at };
+    }
+    Met {
+        vertex: false,
+        at: edges(ring, n, r),
+    }
 }

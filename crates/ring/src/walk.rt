@@ -3,17 +3,21 @@
 use crate::Located;
 use crate::Parity;
 use crate::Point;
+use crate::Touch;
 use crate::Winding;
 use crate::counting;
 use crate::counting::Count;
 use crate::places;
+use crate::places::Met;
 ghost use mathlib.Core.Path.{_≡_};
 ghost use Prim.Native.Nat.{_≤_};
+ghost use lib.Dec.{ltb};
 ghost use lib.IntN.{natAbs};
+ghost use Rattle.ring.specs.Choices.{pick};
 ghost use Rattle.ring.specs.Grid.{vertices};
 ghost use Rattle.ring.specs.Turns.{oddly};
-ghost use Rattle.ring.specs.Locate.{isOdd, off as offBy, locatedOn, placeOf};
-ghost use Rattle.ring.specs.Walk.{Ready, mostTurns, Counted};
+ghost use Rattle.ring.specs.Locate.{vertex, edge, on, isOdd, off as offBy, locatedOn, placeOf};
+ghost use Rattle.ring.specs.Walk.{Ready, mostTurns};
 
 fn parity(w: Winding) -> Parity
     ensures { λ p. ⌜ isOdd p ≡ oddly (w .0) ⌝ }
@@ -35,32 +39,31 @@ fn off(c: Count) -> Located
     Located::Off(winding, parity(winding))
 }
 
-// The lowest vertex that is r, or else the lowest edge that holds it, or else off the ring with the count c.
-fn place(ring: &[i32], n: usize, r: Point, c: Count) -> Located
-    requires { ⌜ Ready (now ring) n r ⌝ }
-    requires { ⌜ Counted (vertices (now ring)) r c ⌝ }
-    ensures { λ l. ⌜ placeOf l ≡ locatedOn (vertices (now (ring .entry))) r ⌝ }
+// On a ring of n vertices where r was met, or else off it with the count c.
+fn found(met: Met, n: usize, c: Count) -> Located
+    requires { ⌜ natAbs (c .turns) ≤ mostTurns ⌝ }
+    ensures { λ l. ⌜ placeOf l ≡ pick (ltb (met .at .lowest) n) (on (pick (met .vertex) vertex edge (met .at .lowest) (met .at .highest))) (offBy (c .turns) (oddly (c .turns))) ⌝ }
 {
-    let v = places::lowest_vertex(ring, n, r);
-    if v < n {
-        return Located::Vertex(v);
+    let at = met.at;
+    if n <= at.lowest {
+        return off(c);
     }
-    let e = places::lowest_edge(ring, n, r);
-    if e < n {
-        return Located::Edge(e);
+    if met.vertex {
+        return Located::On(Touch::Vertex(at.lowest, at.highest));
     }
-    off(c)
+    Located::On(Touch::Edge(at.lowest, at.highest))
 }
 
 // Where r lies against a ring of n vertices, counted edge by edge: the shorter way where n is small. Its last lines are those of `locate_on`:
-// as a function they would be a call, with the count in memory.
+// as a function they would be a call, with the count in memory. `find` is handed a part of the list that is all of it: the list as it came would be
+// copied at the start of every call, found or not.
 pub fn locate_on_short(ring: &[i32], n: usize, r: Point) -> Located
     requires { ⌜ Ready (now ring) n r ⌝ }
     ensures { λ l. ⌜ placeOf l ≡ locatedOn (vertices (now (ring .entry))) r ⌝ }
 {
     let c = counting::each(ring, n, r);
     if c.clear == 0 {
-        return place(ring, n, r, c);
+        return found(places::find(&ring[0..2 * n], n, r), n, c);
     }
     off(c)
 }
@@ -72,7 +75,7 @@ pub fn locate_on(ring: &[i32], n: usize, r: Point) -> Located
 {
     let c = counting::blocks(ring, n, r);
     if c.clear == 0 {
-        return place(ring, n, r, c);
+        return found(places::find(&ring[0..2 * n], n, r), n, c);
     }
     off(c)
 }

@@ -1,5 +1,5 @@
 -- How long the parts of a line are at most, and when a line is written. Assumes nothing.
-use Prim.Native.Nat.{ℕ, _≤_, _<_}
+use Prim.Native.Nat.{ℕ, _+_, _≤_, _<_}
 use native.Mathlib.Nat.{zero-add}
 use native.Mathlib.Omega.{arith}
 use mathlib.Core.Path.{_≡_, refl, sym, _∙_}
@@ -8,10 +8,11 @@ use mathlib.Core.List.{List, _++_}
 use lib.Dec.{ltb}
 use lib.ListN.{length, length-append}
 use borrow.Author.Tests.{lt-ltb, le-ltb, ltb-false}
+use Rattle.ring.specs.Locate.{Touch, vertex, edge}
 use Rattle.ring.proofs.Pick.{pick-true, pick-false}
 use Rattle.districts.specs.Answers.{Belongs, border, one, none, several}
 use Rattle.wording.specs.Text.{ascii, decimal, Laid}
-use Rattle.wording.specs.Lines.{Kind, outline, split, merge, report, broken, Said, ok, okWith, sorted, refused, kindText, belongsText, saidText, line, endLine, room, Written}
+use Rattle.wording.specs.Lines.{Kind, outline, split, merge, report, broken, Said, ok, okWith, sorted, refused, kindText, touchText, belongsText, saidText, line, endLine, room, Written}
 use Rattle.wording.proofs.Decimals.{decimal-short, word-short}
 
 pub kind-short : (k : Kind) → length (kindText k) ≤ 28
@@ -22,16 +23,26 @@ kind-short merge = omega arith
 kind-short (report r) = omega (arith, word-short (ascii " report ") r)
 kind-short broken = omega arith
 
-belongs-short : (b : Belongs) → length (belongsText b) ≤ 50
+-- two numbers behind a word
+pair-short : (word : List ℕ) (n m : ℕ) → length (word ++ decimal n ++ ascii " " ++ decimal m) ≤ length word + 41
 unfolding ascii
-belongs-short (border d) = omega (arith, word-short (ascii " border ") d)
+pair-short word n m =
+    let first = word ++ decimal n in
+    omega (arith, word-short word n, length-append first (ascii " "), word-short (first ++ ascii " ") m)
+
+touch-short : (t : Touch) → length (touchText t) ≤ 49
+unfolding ascii
+touch-short (vertex i j) = omega (arith, pair-short (ascii " vertex ") i j)
+touch-short (edge i j) = omega (arith, pair-short (ascii " edge ") i j)
+
+belongs-short : (b : Belongs) → length (belongsText b) ≤ 77
+unfolding ascii
+belongs-short (border d t) = omega (arith, length-append (ascii " border " ++ decimal d) (touchText t), word-short (ascii " border ") d, touch-short t)
 belongs-short (one d) = omega (arith, word-short (ascii " one ") d)
 belongs-short none = omega arith
-belongs-short (several d n) =
-    let first = ascii " several " ++ decimal d in
-    omega (arith, word-short (ascii " several ") d, length-append first (ascii " "), word-short (first ++ ascii " ") n)
+belongs-short (several d n) = omega (arith, pair-short (ascii " several ") d n)
 
-pub said-short : (s : Said) → length (saidText s) ≤ 50
+pub said-short : (s : Said) → length (saidText s) ≤ 77
 unfolding ascii
 said-short ok = omega arith
 said-short (okWith d) = omega (arith, word-short (ascii " ok ") d)

@@ -5,6 +5,7 @@ use mathlib.Core.List.{List, _++_}
 use lib.Dec.{ltb}
 use lib.ListN.{length}
 use Rattle.ring.specs.Choices.{pick}
+use Rattle.ring.specs.Locate.{Touch, vertex, edge}
 use Rattle.districts.specs.Answers.{Belongs, border, one, none, several, belongs}
 use Rattle.wording.specs.declared.Kind as CodeKind
 use Rattle.wording.specs.declared.Kind.the-variants.{Outline, Split, Merge, Report, Broken}
@@ -32,8 +33,13 @@ kindText merge = ascii " merge"
 kindText (report r) = ascii " report " ++ decimal r
 kindText broken = ascii " record"
 
+-- where on a ring: the lowest index and the highest
+abbrev pub touchText : Touch → List ℕ
+touchText (vertex i j) = ascii " vertex " ++ decimal i ++ ascii " " ++ decimal j
+touchText (edge i j) = ascii " edge " ++ decimal i ++ ascii " " ++ decimal j
+
 abbrev pub belongsText : Belongs → List ℕ
-belongsText (border d) = ascii " border " ++ decimal d
+belongsText (border d t) = ascii " border " ++ decimal d ++ touchText t
 belongsText (one d) = ascii " one " ++ decimal d
 belongsText none = ascii " none"
 belongsText (several d n) = ascii " several " ++ decimal d ++ ascii " " ++ decimal n

@@ -3,12 +3,14 @@ use crate::Kind;
 use crate::Said;
 use crate::text;
 use districts::Class;
+use ring::Touch;
 ghost use Prim.Native.Nat.{_+_, _≤_};
 ghost use lib.ListN.{length};
+ghost use Rattle.ring.specs.Locate.{touchOf};
 ghost use Rattle.districts.specs.Answers as Answers;
 ghost use Rattle.districts.specs.Answers.{belongs};
 ghost use Rattle.wording.specs.Text.{Laid};
-ghost use Rattle.wording.specs.Lines.{kindText, belongsText, saidText, line as lineOf, endLine, room, Written, kindOf, saidOf};
+ghost use Rattle.wording.specs.Lines.{kindText, touchText, belongsText, saidText, line as lineOf, endLine, room, Written, kindOf, saidOf};
 
 // How many places a list must have to be lent for a line; no line has as many.
 pub const ROOM: usize = 160;
@@ -27,28 +29,40 @@ fn kind(to: &mut [u8], at: usize, k: Kind) -> usize
     }
 }
 
-fn several(to: &mut [u8], at: usize, d: usize, n: usize) -> usize
-    requires { ⌜ at + 50 ≤ length (now to) ⌝ }
-    ensures { λ r. ⌜ Laid r at (belongsText (Answers.several d n)) (now (to .entry)) (now (to .exit)) ⌝ }
+// Twice twenty digits, a space and the longer word: " vertex ".
+fn touched(to: &mut [u8], at: usize, t: Touch) -> usize
+    requires { ⌜ at + 49 ≤ length (now to) ⌝ }
+    ensures { λ r. ⌜ Laid r at (touchText (touchOf t)) (now (to .entry)) (now (to .exit)) ⌝ }
 {
-    let next = text::worded(to, at, b" several ", d as u64);
-    text::worded(to, next, b" ", n as u64)
+    match t {
+        Touch::Vertex(i, j) => text::paired(to, at, b" vertex ", i as u64, j as u64),
+        Touch::Edge(i, j) => text::paired(to, at, b" edge ", i as u64, j as u64),
+    }
 }
 
+fn border(to: &mut [u8], at: usize, d: usize, t: Touch) -> usize
+    requires { ⌜ at + 77 ≤ length (now to) ⌝ }
+    ensures { λ r. ⌜ Laid r at (belongsText (Answers.border d (touchOf t))) (now (to .entry)) (now (to .exit)) ⌝ }
+{
+    let next = text::worded(to, at, b" border ", d as u64);
+    touched(to, next, t)
+}
+
+// No class takes more than a border does.
 fn class(to: &mut [u8], at: usize, c: Class) -> usize
-    requires { ⌜ at + 50 ≤ length (now to) ⌝ }
+    requires { ⌜ at + 77 ≤ length (now to) ⌝ }
     ensures { λ r. ⌜ Laid r at (belongsText (belongs c)) (now (to .entry)) (now (to .exit)) ⌝ }
 {
     match c {
-        Class::Border(d) => text::worded(to, at, b" border ", d as u64),
+        Class::Border(d, t) => border(to, at, d, t),
         Class::One(d) => text::worded(to, at, b" one ", d as u64),
         Class::None => text::put(to, at, b" none"),
-        Class::Several(d, n) => several(to, at, d, n),
+        Class::Several(d, n) => text::paired(to, at, b" several ", d as u64, n as u64),
     }
 }
 
 fn said(to: &mut [u8], at: usize, s: Said) -> usize
-    requires { ⌜ at + 50 ≤ length (now to) ⌝ }
+    requires { ⌜ at + 77 ≤ length (now to) ⌝ }
     ensures { λ r. ⌜ Laid r at (saidText (saidOf s)) (now (to .entry)) (now (to .exit)) ⌝ }
 {
     match s {

@@ -3,7 +3,7 @@ ghost use mathlib.Core.Path.{_≡_};
 ghost use Prim.Native.Nat.{_+_, _≤_, _<_};
 ghost use mathlib.Core.List.{_++_};
 ghost use lib.ListN.{length, drop};
-ghost use Rattle.wording.specs.Text.{digit as digitOf, decimal, Laid};
+ghost use Rattle.wording.specs.Text.{digit as digitOf, ascii, decimal, Laid};
 
 const DIGITS: usize = 20;
 
@@ -58,4 +58,13 @@ pub fn worded(to: &mut [u8], at: usize, word: &[u8], n: u64) -> usize
 {
     let next = put(to, at, word);
     number(to, next, n)
+}
+
+// A word, and two numbers behind it.
+pub fn paired(to: &mut [u8], at: usize, word: &[u8], n: u64, m: u64) -> usize
+    requires { ⌜ at + length (now word) + 41 ≤ length (now to) ⌝ }
+    ensures { λ r. ⌜ Laid r at (now (word .entry) ++ decimal n ++ ascii " " ++ decimal m) (now (to .entry)) (now (to .exit)) ⌝ }
+{
+    let next = worded(to, at, word, n);
+    worded(to, next, b" ", m)
 }

@@ -10,23 +10,17 @@ use Rattle.exports.proofs.telling.place.Tie as tie
 enum-known-p : tie.Need-enum-known-p
 enum-known-p c = search needs
 
-told-requires : tie.Need-told-requires
-told-requires c κs = search needs
+touched-requires : tie.Need-touched-requires
+touched-requires c κs = search needs
 
 enum-known-p-2 : tie.Need-enum-known-p-2
 enum-known-p-2 c = search needs
 
-told-requires-2 : tie.Need-told-requires-2
-told-requires-2 c κs = search needs
-
-enum-known-p-3 : tie.Need-enum-known-p-3
-enum-known-p-3 c = search needs
-
 off-requires : tie.Need-off-requires
 off-requires c κs = search needs
 
-enum-known-p-4 : tie.Need-enum-known-p-4
-enum-known-p-4 c = search needs
+enum-known-p-3 : tie.Need-enum-known-p-3
+enum-known-p-3 c = search needs
 
 refused-requires : tie.Need-refused-requires
 refused-requires c κs = search needs
@@ -38,24 +32,18 @@ returns-2 : tie.Need-returns-2
 returns-2 c = search needs
 
 returns-3 : tie.Need-returns-3
-returns-3 c = search needs
-
-returns-4 : tie.Need-returns-4
-returns-4 c = tells-as (sym (ap (λ p. placeCode (placeOf p)) (c .before .before .before .p4 .given .1))) (c .refused .ensures)
+returns-3 c = tells-as (sym (ap (λ p. placeCode (placeOf p)) (c .before .before .before .p3 .given .1))) (c .refused .ensures)
 
 pub place-spec : {M : Type 1} → statement M
 place-spec =
     tie.close
     (tie.spec
     enum-known-p
-    told-requires
+    touched-requires
     enum-known-p-2
-    told-requires-2
-    enum-known-p-3
     off-requires
-    enum-known-p-4
+    enum-known-p-3
     refused-requires
     returns
     returns-2
-    returns-3
-    returns-4)
+    returns-3)

@@ -1,5 +1,4 @@
--- `register::sorting::lies` hands the run of a number that is used to locating, and says of its answer whether r is on the ring or winds
--- about it. Assumes nothing.
+-- `register::sorting::lies` hands the run of a number that is used to locating. Assumes nothing.
 use Prim.Native.Nat.{_+_, _≤_}
 use native.Mathlib.Omega.{arith}
 use mathlib.Core.Path.{_≡_, sym, ap, subst, subst₂, _∙_}
@@ -8,7 +7,8 @@ use Rattle.ring.specs.Locate.{locatedOn}
 use Rattle.ring.specs.Walk.{Ready}
 use Rattle.districts.specs.Lists.{firstPlace, size, part}
 use Rattle.districts.proofs.Meaning.{unused-when, ring-when}
-use Rattle.register.specs.Sorting.{rests, winds, ofSlot}
+use Rattle.register.specs.Sorting.{rests, winds, liesTo}
+use Rattle.register.specs.Standing.{Stands}
 use Rattle.districts.proofs.Lent.{cut, ready}
 use borrow.Author.Needs.{needs}
 use Rattle.register.proofs.sorting.lies.Statement.{statement}
@@ -21,7 +21,7 @@ returns : tie.Need-returns
 returns c =
     let start = c .before .before .before in
     let nothing = unused-when (start .args .store .now) (firstPlace (start .args .runs .now) (start .args .d)) (size (start .args .runs .now) (start .args .d)) (sym (c .before .size .ensures .0) ∙ c .if1 .taken) in
-    (sym (ap (ofSlot rests (start .args .r)) nothing), sym (ap (ofSlot winds (start .args .r)) nothing))
+    (ap (λ s. rests (liesTo (start .args .r) s)) nothing, ap (λ s. winds (liesTo (start .args .r) s)) nothing)
 
 -- the number is used
 used : (c : tie.Else1) → size (c .before .before .before .args .runs .now) (c .before .before .before .args .d) ≡ 0 → ⊥
@@ -72,8 +72,8 @@ locate-on-requires c κs =
     (subst₂ (λ f n. Ready (part store f n) n (start .args .r)) (sym f) (sym n)
     (ready store runs (start .args .r) (start .pre .0) (start .args .d) (start .pre .1 .0) (used (c .before .before)) (start .pre .1 .1)))
 
-lies-at-requires : tie.Need-lies-at-requires
-lies-at-requires c κs = search needs
+lying-requires : tie.Need-lying-requires
+lying-requires c κs = search needs
 
 returns-2 : tie.Need-returns-2
 returns-2 c =
@@ -85,7 +85,7 @@ returns-2 c =
     let n = c .before .before .before .before .before .size .ensures .0 in
     let place = c .before .locate-on .ensures ∙ ap (λ xs. locatedOn (vertices xs) r) (cut store (c .before .before .before .first-place .result) (c .before .before .before .before .before .size .result) ∙ (λ i. part store (f i) (n i))) in
     let its-ring = ring-when store (firstPlace runs (start .args .d)) (size runs (start .args .d)) (used (c .before .before .before .before)) in
-    (c .lies-at .ensures .0 ∙ ap rests place ∙ sym (ap (ofSlot rests r) its-ring), c .lies-at .ensures .1 ∙ ap winds place ∙ sym (ap (ofSlot winds r) its-ring))
+    subst (Stands (c .lying .result)) (place ∙ sym (ap (liesTo r) its-ring)) (c .lying .ensures)
 
 pub lies-spec : {M : Type 1} → statement M
 lies-spec =
@@ -102,5 +102,5 @@ lies-spec =
     part-locate-on-start
     part-locate-on-end
     locate-on-requires
-    lies-at-requires
+    lying-requires
     returns-2)

@@ -1,48 +1,58 @@
 -- `register::sorting::sort` sees every number in turn. The invariant: what is seen of the numbers below d (`Sorts`). Assumes nothing.
-use Prim.Native.Nat.{ℕ, _+_, _-_}
+use Prim.Native.Nat.{ℕ, _-_}
+use native.Mathlib.Nat.{add-zero}
 use native.Mathlib.Omega.{arith}
-use mathlib.Core.Path.{refl, sym, ap, _∙_}
-use mathlib.Core.Bool.{Bool, _&&_}
+use mathlib.Core.Path.{refl, sym, ap, subst, _∙_}
+use mathlib.Core.Bool.{true, false}
 use mathlib.Core.List.{List}
-use lib.Dec.{leb}
+use mathlib.Core.Logic.{inl, inr}
 use lib.IntN.{ℤ}
 use borrow.Author.Needs.{needs}
 use Rattle.ring.specs.declared.Point.{Point}
-use Rattle.ring.specs.Choices.{pick, count}
+use Rattle.ring.specs.Locate.{Place}
 use Rattle.districts.specs.Lists.{district}
-use Rattle.register.specs.Sorting.{rests, winds, ofSlot}
+use Rattle.register.specs.Sorting.{liesTo}
+use Rattle.register.specs.Standing.{Stands}
 use Rattle.register.proofs.Sorts.{Sorts, sorts-none, sorts-more, sorts-border, sorts-all}
 use Rattle.register.proofs.sorting.sort.Statement.{statement}
 use Rattle.register.proofs.sorting.sort.Tie as tie
 
--- r is on the ring of a number; it winds about one
-abbrev on : List ℤ → List ℕ → Point → ℕ → Bool
-on store runs r d = ofSlot rests r (district store runs d)
-
-abbrev about : List ℤ → List ℕ → Point → ℕ → Bool
-about store runs r d = ofSlot winds r (district store runs d)
+-- where r lies to a number
+abbrev lies : List ℤ → List ℕ → Point → ℕ → Place
+lies store runs r d = liesTo r (district store runs d)
 
 abbrev Inv-loop : tie.InvT-loop
-Inv-loop store runs r seen₀ d₀ seen d = Sorts (on store runs r) (about store runs r) d seen
+Inv-loop store runs r seen₀ d₀ seen d = Sorts (lies store runs r) d seen
 
 abbrev μ-loop : tie.MeasureT-loop
 μ-loop store runs r seen₀ d₀ seen d = 64 - d
 
 loop-holds : tie.Need-loop-holds Inv-loop μ-loop
-loop-holds c = sorts-none _ _ _ refl refl
+loop-holds c = sorts-none _ _ refl refl
 
 lies-requires : tie.Need-lies-requires Inv-loop μ-loop
 lies-requires c κs = search needs
 
+enum-known-touch : tie.Need-enum-known-touch Inv-loop μ-loop
+enum-known-touch c = search needs
+
 returns : tie.Need-returns Inv-loop μ-loop
 returns c =
-    let turn = c .before .before .before in
+    let seen = c .before .before .before in
+    let turn = seen .before .before in
     let a = turn .before .before .args in
-    sorts-border (on (a .store .now) (a .runs .now) (a .r)) (about (a .store .now) (a .runs .now) (a .r)) (turn .loop .d) (turn .loop .seen) (c .before .before .loop-test .taken) (turn .loop .inv)
-    (sym (c .before .lies .ensures .0) ∙ c .if1 .taken)
+    let place = lies (a .store .now) (a .runs .now) (a .r) in
+    let met = subst (λ s. Stands s (place (turn .loop .d))) (c .before .touch .given .1) (seen .lies .ensures) in
+    sorts-border place (turn .loop .d) (turn .loop .seen) _ (seen .before .loop-test .taken) (turn .loop .inv) met
+
+enum-told : tie.Need-enum-told Inv-loop μ-loop
+enum-told c = search needs
 
 with-requires : tie.Need-with-requires Inv-loop μ-loop
-with-requires c κs = omega (arith, c .before .before .before .loop .inv .few, c .before .before .loop-test .taken)
+with-requires c κs = let turn = c .before .before .before .before in omega (arith, turn .loop .inv .few, c .before .before .before .loop-test .taken)
+
+enum-told-2 : tie.Need-enum-told-2 Inv-loop μ-loop
+enum-told-2 c = search needs
 
 add-d : tie.Need-add-d Inv-loop μ-loop
 add-d c = search needs
@@ -52,14 +62,16 @@ loop-less c = search needs
 
 loop-again : tie.Need-loop-again Inv-loop μ-loop
 loop-again c =
-    let turn = c .before .before .before .before in
+    let seen = c .before in
+    let turn = seen .before .before in
     let a = turn .before .before .args in
-    let lies = c .before .before .lies .ensures in
+    let place = lies (a .store .now) (a .runs .now) (a .r) in
+    let d = turn .loop .d in
     let s = turn .loop .seen in
-    sorts-more (on (a .store .now) (a .runs .now) (a .r)) (about (a .store .now) (a .runs .now) (a .r)) (turn .loop .d) s (c .with .result) (c .before .before .before .loop-test .taken) (turn .loop .inv)
-    (sym (lies .0) ∙ c .before .if1 .left)
-    (c .with .ensures .0 ∙ ap (λ b. s .many + count b) (lies .1))
-    (c .with .ensures .1 ∙ ap (λ b. pick (b && leb 64 (s .lowest)) (turn .loop .d) (s .lowest)) (lies .1))
+    elim (c .match .came) [
+      | inl inside ↦ sorts-more place true d s (c .match .seen) (seen .before .loop-test .taken) (turn .loop .inv) (subst (λ s. Stands s (place d)) (inside .1 .given .1) (seen .lies .ensures)) (ap (λ s. s .many) (inside .3) ∙ inside .2 .ensures .0) (ap (λ s. s .lowest) (inside .3) ∙ inside .2 .ensures .1)
+      | inr outside ↦ sorts-more place false d s (c .match .seen) (seen .before .loop-test .taken) (turn .loop .inv) (subst (λ s. Stands s (place d)) (outside .1 .given .1) (seen .lies .ensures)) (ap (λ s. s .many) (outside .2) ∙ sym (add-zero (s .many))) (ap (λ s. s .lowest) (outside .2))
+    ]
 
 class-requires : tie.Need-class-requires Inv-loop μ-loop
 class-requires c κs = search needs
@@ -68,7 +80,7 @@ returns-2 : tie.Need-returns-2 Inv-loop μ-loop
 returns-2 c =
     let turn = c .before .before in
     let a = turn .before .before .args in
-    c .class .ensures ∙ sorts-all (on (a .store .now) (a .runs .now) (a .r)) (about (a .store .now) (a .runs .now) (a .r)) (turn .loop .d) (turn .loop .seen) (c .before .loop-test .left) (turn .loop .inv)
+    c .class .ensures ∙ sorts-all (lies (a .store .now) (a .runs .now) (a .r)) (turn .loop .d) (turn .loop .seen) (c .before .loop-test .left) (turn .loop .inv)
 
 pub sort-spec : {M : Type 1} → statement M
 sort-spec =
@@ -78,8 +90,11 @@ sort-spec =
     μ-loop
     loop-holds
     lies-requires
+    enum-known-touch
     returns
+    enum-told
     with-requires
+    enum-told-2
     add-d
     loop-less
     loop-again

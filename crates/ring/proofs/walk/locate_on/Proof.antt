@@ -1,21 +1,48 @@
 -- `ring::walk::locate_on` counts by blocks, and looks for places only where some determinant was 0. Assumes nothing.
 use native.Mathlib.Omega.{arith}
-use mathlib.Core.Path.{_∙_}
+use mathlib.Core.Path.{_≡_, sym, ap, subst, _∙_}
+use lib.ListN.{length}
 use borrow.Author.Needs.{needs}
 use Rattle.ring.specs.Grid.{vertices}
+use Rattle.ring.specs.Walk.{Ready, metAt}
 use Rattle.ring.proofs.Vertices.{length-vertices}
-use Rattle.ring.proofs.Settled.{clear-off}
+use Rattle.ring.proofs.Settled.{part-whole, clear-off, settled}
 use Rattle.ring.proofs.walk.locate_on.Statement.{statement}
 use Rattle.ring.proofs.walk.locate_on.Tie as tie
 
 blocks-requires : tie.Need-blocks-requires
 blocks-requires c κs = search needs
 
-place-requires : tie.Need-place-requires
-place-requires c κs = search needs
+mul-find : tie.Need-mul-find
+mul-find c = search needs
+
+sub-find : tie.Need-sub-find
+sub-find c = search needs
+
+part-find-start : tie.Need-part-find-start
+part-find-start c = search needs
+
+part-find-end : tie.Need-part-find-end
+part-find-end c = search needs
+
+find-requires : tie.Need-find-requires
+find-requires c κs =
+    let start = c .before .before .before .before in
+    subst (λ xs. Ready xs (start .args .n) (start .args .r)) (sym (part-whole (start .args .ring .now) (start .args .n) (start .pre .even))) (start .pre)
+
+found-requires : tie.Need-found-requires
+found-requires c κs = search needs
+
+size : (c : tie.Start) → length (vertices (c .args .ring .now)) ≡ c .args .n
+size c = length-vertices (c .args .ring .now) (c .args .n) (c .pre .even)
 
 returns : tie.Need-returns
-returns c = search needs
+returns c =
+    let counted = c .before .before .before .before .before in
+    let start = counted .before in
+    let xs = start .args .ring .now in
+    let met = c .before .find .ensures ∙ ap (λ ys. metAt (vertices ys) (start .args .r) (start .args .n)) (part-whole xs (start .args .n) (start .pre .even)) in
+    c .found .ensures ∙ settled (vertices xs) (start .args .r) (counted .blocks2 .result) (counted .blocks2 .ensures) (start .args .n) (c .before .find .result) (size start) met
 
 off-requires : tie.Need-off-requires
 off-requires c κs = search needs
@@ -24,9 +51,19 @@ returns-2 : tie.Need-returns-2
 returns-2 c =
     let counted = c .before .before .before in
     let start = counted .before in
-    let xs = start .args .ring .now in
-    c .off .ensures
-    ∙ clear-off (vertices xs) (start .args .r) (start .args .n) (length-vertices xs (start .args .n) (start .pre .even)) (counted .blocks2 .result) (counted .blocks2 .ensures) (omega (arith, c .before .if1 .left))
+    c .off .ensures ∙ clear-off (vertices (start .args .ring .now)) (start .args .r) (counted .blocks2 .result) (counted .blocks2 .ensures) (omega (arith, c .before .if1 .left))
 
 pub locate-on-spec : {M : Type 1} → statement M
-locate-on-spec = tie.close (tie.spec blocks-requires place-requires returns off-requires returns-2)
+locate-on-spec =
+    tie.close
+    (tie.spec
+    blocks-requires
+    mul-find
+    sub-find
+    part-find-start
+    part-find-end
+    find-requires
+    found-requires
+    returns
+    off-requires
+    returns-2)

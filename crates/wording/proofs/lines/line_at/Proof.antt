@@ -28,7 +28,7 @@ numbered c = omega (arith, c .number .ensures .behind, decimal-short (start c .a
 named : (c : tie.After-kind) → c .kind .result ≤ start (number c) .args .at + 48
 named c = omega (arith, c .kind .ensures .behind, kind-short (kindOf (start (number c) .args .k)), numbered (number c))
 
-answered : (c : tie.After-said) → c .said .result ≤ start (number (kind c)) .args .at + 98
+answered : (c : tie.After-said) → c .said .result ≤ start (number (kind c)) .args .at + 125
 answered c = omega (arith, c .said .ensures .behind, said-short (saidOf (start (number (kind c)) .args .s)), named (kind c))
 
 number-requires : tie.Need-number-requires
