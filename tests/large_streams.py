@@ -58,7 +58,7 @@ def largest_outline():
         "1 outline ok",
         "2 outline refused 3",
         "3 report 1 one 0",
-        "4 report 2 border 0",
+        "4 report 2 border 0 vertex 2047 2047",
         "5 report 3 none",
         "6 split refused 9",
         "7 split refused 12",
@@ -83,7 +83,7 @@ def room_for_one_split():
         "1 split refused 12",
         "2 split ok 1",
         "3 split refused 12",
-        "4 report 1 border 0",
+        "4 report 1 border 0 edge 2043 2043",
         "end 5 one 0 border 1 none 0 several 0",
     )
 
@@ -146,7 +146,7 @@ def longest_path_with_room():
         "1 split refused 12",
         "2 split ok 1",
         "3 split refused 12",
-        "4 report 1 border 0",
+        "4 report 1 border 0 vertex 4 1022",
         "5 merge ok 0",
         "6 report 2 one 0",
         "7 split ok 1",

@@ -40,7 +40,13 @@ class Maker:
         return self.rng.choice([(beyond, allowed), (allowed, beyond)])
 
     def found(self, least, most):
-        self.outline(self.points(least, most))
+        self.outline(self.repeated(self.points(least, most)))
+
+    def repeated(self, vertices):
+        """As they are, with a doubled corner, with a spike, or twice over."""
+        at = self.rng.randrange(len(vertices))
+        before, behind = vertices[: at + 1], vertices[at:]
+        return self.rng.choice([vertices, before + behind, before + [self.point()] + behind, vertices * 2])
 
     def outline(self, vertices):
         self.lines.append(f"outline {words(vertices)}")
@@ -105,14 +111,12 @@ class Maker:
         ]
 
     def report_somewhere(self):
-        """A point like those of the rings, or close to the middle of an edge: within a millimetre, so on it only by chance."""
-        if self.rng.random() < 0.5:
-            self.report(self.point())
-            return
+        """A point like those of the rings, a vertex, or close to the middle of an edge: within a millimetre, so on it only by chance."""
         ring = self.register.districts[self.any_district()]
         at = self.rng.randrange(len(ring))
         (px, py), (qx, qy) = ring[at - 1], ring[at]
-        self.report(((px + qx) // 2 + self.rng.randint(-1, 1), (py + qy) // 2 + self.rng.randint(-1, 1)))
+        near = (px + qx) // 2 + self.rng.randint(-1, 1), (py + qy) // 2 + self.rng.randint(-1, 1)
+        self.report(self.rng.choice([self.point(), self.point(), ring[at], near]))
 
     def strange_record(self):
         """A record with one or more fields that are seldom right."""

@@ -40,8 +40,13 @@ def on_edge(p, q, r):
     )
 
 
-def on_ring(ring, r):
-    return any(on_edge(p, q, r) for p, q in edges(ring))
+def touch(ring, r):
+    """`vertex` or `edge`, and the lowest and the highest index of the vertices that are r, or else of the edges that hold it. None off the ring."""
+    vertices = [i for i, p in enumerate(ring) if p == r]
+    held = [i for i, (p, q) in enumerate(edges(ring)) if on_edge(p, q, r)]
+    if vertices:
+        return "vertex", min(vertices), max(vertices)
+    return ("edge", min(held), max(held)) if held else None
 
 
 def winding(ring, r):
@@ -148,7 +153,7 @@ class Register:
         return a_number
 
     def assign(self, position):
-        """Answers the class, first word and then numbers. The position is None, a point in millimetres, or a Fix."""
+        """Answers the parts of the class, its word first. The position is None, a point in millimetres, or a Fix."""
         refuse_if(self.outline is None, 2)
         refuse_if(position is None, 19)
         refuse_if(isinstance(position, Fix) and not position.finite(), 18)
@@ -156,8 +161,9 @@ class Register:
         refuse_if(beyond_grid([point]), 5)
         numbers = sorted(self.districts)
         for d in numbers:
-            if on_ring(self.districts[d], point):
-                return "border", d
+            place = touch(self.districts[d], point)
+            if place is not None:
+                return "border", d, *place
         around = [d for d in numbers if winding(self.districts[d], point) != 0]
         if not around:
             return ("none",)

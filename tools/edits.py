@@ -8,6 +8,7 @@ NO_FACT = (
     "Parse",
     "-spec`: expected type",
     "was not admitted",
+    "has no field",
     "for this file to be the proof of",
 )
 

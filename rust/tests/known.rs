@@ -1,5 +1,5 @@
 //! The known points, the README's listing, every refusal, the tally at its limit, and known fixes.
-use launchramp::{locate, millimetres, Class, Place, Position, Refusal, Register, Tally};
+use launchramp::{locate, millimetres, Class, Place, Position, Refusal, Register, Tally, Touch};
 use launchramp::{COUNTS, NUMBERS, OUTLINE_LENGTH, RUNS_LENGTH, STORE_LENGTH};
 
 const LIMIT: i32 = 1_000_000_000;
@@ -11,12 +11,26 @@ const S_TWICE: &[i32] = &[0, 0, 4, 0, 4, 4, 0, 4, 0, 0, 4, 0, 4, 4, 0, 4];
 const BOW_TIE: &[i32] = &[0, 0, 4, 4, 4, 0, 0, 4];
 const ONE_POINT: &[i32] = &[1, 1, 1, 1, 1, 1];
 const FLAT: &[i32] = &[0, 0, 4, 0, 2, 0];
+const DOUBLED_CORNER: &[i32] = &[0, 0, 4, 0, 4, 0, 4, 4, 0, 4];
+const SPIKE: &[i32] = &[0, 0, 4, 0, 7, 0, 4, 0, 4, 4, 0, 4];
 const HALF_THE_GRID: &[i32] = &[-LIMIT, -LIMIT, LIMIT, -LIMIT, LIMIT, LIMIT];
 
 fn founded() -> Register {
     let mut register = Register::new();
     register.found(S).unwrap();
     register
+}
+
+fn vertex(lowest: usize, highest: usize) -> Touch {
+    Touch::Vertex { lowest, highest }
+}
+
+fn edge(lowest: usize, highest: usize) -> Touch {
+    Touch::Edge { lowest, highest }
+}
+
+fn border(district: usize, touch: Touch) -> Class {
+    Class::Border { district, touch }
 }
 
 fn fix(easting: f64, northing: f64) -> Position {
@@ -53,17 +67,22 @@ fn known_points() {
     for (ring, (x, y), place) in [
         (S, (2, 2), Place::Off(1)),
         (S, (5, 2), Place::Off(0)),
-        (S, (4, 4), Place::Vertex(2)),
-        (S, (4, 1), Place::Edge(1)),
-        (S, (0, 2), Place::Edge(3)),
+        (S, (4, 4), Place::On(vertex(2, 2))),
+        (S, (4, 1), Place::On(edge(1, 1))),
+        (S, (0, 2), Place::On(edge(3, 3))),
         (S_BACKWARDS, (2, 2), Place::Off(-1)),
         (S_TWICE, (2, 2), Place::Off(2)),
+        (S_TWICE, (4, 4), Place::On(vertex(2, 6))),
+        (S_TWICE, (0, 2), Place::On(edge(3, 7))),
         (BOW_TIE, (3, 2), Place::Off(-1)),
         (BOW_TIE, (1, 2), Place::Off(1)),
-        (BOW_TIE, (2, 2), Place::Edge(0)),
-        (ONE_POINT, (1, 1), Place::Vertex(0)),
+        (BOW_TIE, (2, 2), Place::On(edge(0, 2))),
+        (ONE_POINT, (1, 1), Place::On(vertex(0, 2))),
         (ONE_POINT, (0, 0), Place::Off(0)),
-        (FLAT, (3, 0), Place::Edge(0)),
+        (FLAT, (3, 0), Place::On(edge(0, 1))),
+        (DOUBLED_CORNER, (4, 0), Place::On(vertex(1, 2))),
+        (SPIKE, (6, 0), Place::On(edge(1, 2))),
+        (SPIKE, (4, 0), Place::On(vertex(1, 3))),
         (HALF_THE_GRID, (1, 0), Place::Off(1)),
         (HALF_THE_GRID, (0, 1), Place::Off(0)),
     ] {
@@ -77,7 +96,7 @@ fn locating_refuses() {
     assert_eq!(locate(&S[..7], 0, 0), Err(Refusal::NoRing));
     assert_eq!(locate(&[0; 2 * 2], 0, 0), Err(Refusal::NoRing));
     assert_eq!(locate(&[0; 2 * 2049], 0, 0), Err(Refusal::NoRing));
-    assert_eq!(locate(&[0; 2 * 2048], 0, 0), Ok(Place::Vertex(0)));
+    assert_eq!(locate(&[0; 2 * 2048], 0, 0), Ok(Place::On(vertex(0, 2047))));
     assert_eq!(
         locate(&[0, 0, 4, 0, BEYOND, 4], 0, 0),
         Err(Refusal::BeyondGrid)
@@ -115,7 +134,7 @@ fn the_documents_listing() {
     assert_eq!(register.assign_counted(3, 1, &mut tally), Ok(Class::One(0)));
     assert_eq!(
         register.assign_counted(2, 2, &mut tally),
-        Ok(Class::Border(0))
+        Ok(border(0, edge(2, 2)))
     );
     assert_eq!(register.assign_counted(9, 9, &mut tally), Ok(Class::None));
     assert_eq!(register.split(1, 0, 1, &[]), Err(Refusal::TooFew));
@@ -124,6 +143,41 @@ fn the_documents_listing() {
     let ones: Vec<u32> = (0..NUMBERS).map(|d| tally.one(d)).collect();
     assert_eq!((ones[0], ones.iter().sum()), (2, 2));
     assert_eq!((tally.border(), tally.none(), tally.several()), (1, 1, 0));
+}
+
+#[test]
+fn a_report_on_rings_that_repeat_places() {
+    for (ring, (x, y), touch) in [
+        (S_TWICE, (4, 4), vertex(2, 6)),
+        (S_TWICE, (0, 2), edge(3, 7)),
+        (DOUBLED_CORNER, (4, 0), vertex(1, 2)),
+        (SPIKE, (6, 0), edge(1, 2)),
+        (SPIKE, (4, 0), vertex(1, 3)),
+    ] {
+        let mut register = Register::new();
+        register.found(ring).unwrap();
+        assert_eq!(register.assign(x, y), Ok(border(0, touch)), "{ring:?}");
+    }
+}
+
+#[test]
+fn a_shared_border_as_the_lower_district_has_it() {
+    let mut register = Register::new();
+    register.found(DOUBLED_CORNER).unwrap();
+    register.split(0, 2, 4, &[]).unwrap();
+    assert_eq!(register.district(0), Some(&[4, 0, 4, 4, 0, 4][..]));
+    assert_eq!(register.district(1), Some(&[0, 4, 0, 0, 4, 0, 4, 0][..]));
+    // Edge 3 and vertices 2 and 3 of district 1.
+    assert_eq!(register.assign(2, 2), Ok(border(0, edge(2, 2))));
+    assert_eq!(register.assign(4, 0), Ok(border(0, vertex(0, 0))));
+    // The number 0 goes, and comes back with the piece that has the doubled corner.
+    register.merge((1, 3), (0, 0), 1).unwrap();
+    register.split(1, 0, 2, &[]).unwrap();
+    assert_eq!(register.district(0), Some(&[4, 0, 4, 0, 4, 4, 0, 4][..]));
+    assert_eq!(register.district(1), Some(&[0, 4, 0, 0, 4, 0][..]));
+    // Edge 2 and vertex 2 of district 1.
+    assert_eq!(register.assign(2, 2), Ok(border(0, edge(3, 3))));
+    assert_eq!(register.assign(4, 0), Ok(border(0, vertex(0, 1))));
 }
 
 #[test]
@@ -410,12 +464,12 @@ fn reports_by_position() {
         (fix(0.003, 0.001), Class::One(0)),
         (fix(0.001, 0.003), Class::One(1)),
         (fix(0.00251, 0.00149), Class::One(0)),
-        (fix(0.00249, 0.00151), Class::Border(0)),
+        (fix(0.00249, 0.00151), border(0, edge(2, 2))),
         (fix(0.0046, 0.001), Class::None),
         // As a double a little less than four and a half millimetres.
-        (fix(0.0045, 0.001), Class::Border(0)),
+        (fix(0.0045, 0.001), border(0, edge(1, 1))),
         (fix(-0.0005, -0.0), Class::None),
-        (fix(-0.0004, -0.0), Class::Border(0)),
+        (fix(-0.0004, -0.0), border(0, vertex(0, 0))),
     ] {
         assert_eq!(register.assign_at(position), Ok(class), "{position:?}");
         assert_eq!(register.assign_at_counted(position, &mut tally), Ok(class));
@@ -432,7 +486,7 @@ fn a_tally_at_its_limit() {
     let almost = Tally::from_counts([u32::MAX - 1; COUNTS]);
     for ((x, y), class) in [
         ((2, 2), Class::One(0)),
-        ((2, 9), Class::Border(0)),
+        ((2, 9), border(0, vertex(2, 2))),
         ((9, 9), Class::None),
         (
             (2, 6),

@@ -1,10 +1,11 @@
 //! Some 120,000 made calls, to the library and to plain Rust: every answer is compared, and after
-//! every change every ring. At the end every answer must have come.
+//! every change every ring. At the end every answer must have come, and the lowest and the highest
+//! place on a ring must have been apart often enough.
 mod plain;
 
-use launchramp::{locate, millimetres, Position, Refusal, Register, NUMBERS};
+use launchramp::{locate, millimetres, Class, Place, Position, Refusal, Register, Touch, NUMBERS};
 use plain::{shared_edges, Point, Rows};
-use std::collections::BTreeSet;
+use std::collections::{BTreeMap, BTreeSet};
 use std::fmt::Debug;
 
 const SEED: u64 = 7;
@@ -12,6 +13,10 @@ const LIVES: usize = 500;
 const CALLS_A_LIFE: usize = 240;
 const LIMIT: i32 = 1_000_000_000;
 const BEYOND: i32 = LIMIT + 1;
+
+/// Fewer answers whose lowest and highest place are apart say nothing: at vertices and on edges each,
+/// of each call that tells them.
+const FEWEST_APART: usize = 50;
 
 /// Numbers by chance, the same on every machine: the splitmix64 generator.
 struct Chance(u64);
@@ -81,6 +86,8 @@ struct Life<'a> {
     register: Register,
     rows: Rows,
     seen: &'a mut BTreeSet<String>,
+    /// How many answers had their lowest and highest place apart, by the call and what was touched.
+    apart: &'a mut BTreeMap<String, usize>,
 }
 
 impl Life<'_> {
@@ -140,19 +147,16 @@ impl Life<'_> {
 
     fn assign(&mut self) {
         let (x, y) = self.point();
-        self.compare(
-            "assign",
-            (self.register.assign(x, y), self.rows.assign(x, y)),
-        );
+        let answer = self.register.assign(x, y);
+        self.compare("assign", (answer, self.rows.assign(x, y)));
+        self.count_border("assign", answer);
     }
 
     fn assign_at(&mut self) {
         let position = self.position();
-        let answers = (
-            self.register.assign_at(position),
-            self.rows.assign_at(position),
-        );
-        self.compare("assign_at", answers);
+        let answer = self.register.assign_at(position);
+        self.compare("assign_at", (answer, self.rows.assign_at(position)));
+        self.count_border("assign_at", answer);
     }
 
     fn millimetres(&mut self) {
@@ -169,7 +173,27 @@ impl Life<'_> {
         let n = self.chance.below(40);
         let ring = self.list(n);
         let (x, y) = self.point();
-        self.compare("locate", (locate(&ring, x, y), plain::locate(&ring, x, y)));
+        let answer = locate(&ring, x, y);
+        self.compare("locate", (answer, plain::locate(&ring, x, y)));
+        if let Ok(Place::On(touch)) = answer {
+            self.count("locate", touch);
+        }
+    }
+
+    fn count_border(&mut self, call: &str, answer: Result<Class, Refusal>) {
+        if let Ok(Class::Border { touch, .. }) = answer {
+            self.count(call, touch);
+        }
+    }
+
+    fn count(&mut self, call: &str, touch: Touch) {
+        let (on, lowest, highest) = match touch {
+            Touch::Vertex { lowest, highest } => ("Vertex", lowest, highest),
+            Touch::Edge { lowest, highest } => ("Edge", lowest, highest),
+        };
+        if lowest != highest {
+            *self.apart.entry(format!("{call} {on}")).or_default() += 1;
+        }
     }
 
     fn coordinate(&mut self) -> i32 {
@@ -274,8 +298,7 @@ impl Life<'_> {
             Ok(answer) => format!("{answer:?}"),
             Err(refusal) => format!("{refusal:?}"),
         };
-        let name: String = answer.chars().take_while(|c| c.is_alphabetic()).collect();
-        self.seen.insert(format!("{call} {name}"));
+        self.seen.insert(format!("{call} {}", names(&answer)));
     }
 
     fn compare_rings(&self) {
@@ -292,6 +315,15 @@ impl Life<'_> {
             );
         }
     }
+}
+
+/// The names of an answer, without its fields: `Border Edge`.
+fn names(answer: &str) -> String {
+    let words = answer.split(|c: char| !c.is_alphabetic());
+    let names: Vec<&str> = words
+        .filter(|word| word.starts_with(char::is_uppercase))
+        .collect();
+    names.join(" ")
 }
 
 /// Every answer of each call but refusals 1 and 14; an accepted change has no name.
@@ -326,7 +358,8 @@ const ANSWERS: [(&str, &[&str]); 7] = [
     (
         "assign",
         &[
-            "Border",
+            "Border Vertex",
+            "Border Edge",
             "One",
             "None",
             "Several",
@@ -337,7 +370,8 @@ const ANSWERS: [(&str, &[&str]); 7] = [
     (
         "assign_at",
         &[
-            "Border",
+            "Border Vertex",
+            "Border Edge",
             "One",
             "None",
             "Several",
@@ -348,13 +382,17 @@ const ANSWERS: [(&str, &[&str]); 7] = [
         ],
     ),
     ("millimetres", &["", "NotFinite", "BeyondGrid"]),
-    ("locate", &["Vertex", "Edge", "Off", "NoRing", "BeyondGrid"]),
+    (
+        "locate",
+        &["On Vertex", "On Edge", "Off", "NoRing", "BeyondGrid"],
+    ),
 ];
 
 #[test]
 fn lives_of_registers() {
     let mut chance = Chance(SEED);
     let mut seen = BTreeSet::new();
+    let mut apart = BTreeMap::new();
     for life in 0..LIVES {
         let style = &STYLES[life % STYLES.len()];
         let (register, rows) = (Register::new(), Rows::new());
@@ -364,6 +402,7 @@ fn lives_of_registers() {
             register,
             rows,
             seen: &mut seen,
+            apart: &mut apart,
         }
         .live();
     }
@@ -371,4 +410,14 @@ fn lives_of_registers() {
         .iter()
         .flat_map(|(call, names)| names.iter().map(move |name| format!("{call} {name}")));
     assert_eq!(seen, all.collect());
+    for call in ["locate", "assign", "assign_at"] {
+        for on in ["Vertex", "Edge"] {
+            let many = *apart.get(&format!("{call} {on}")).unwrap_or(&0);
+            println!("{call} {on}: {many} answers with places apart");
+            assert!(
+                many >= FEWEST_APART,
+                "{call} {on}: too few with places apart"
+            );
+        }
+    }
 }

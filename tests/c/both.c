@@ -1,5 +1,6 @@
 /* What both.h promises. */
 #include "both.h"
+#include "spans.h"
 #include "sums.h"
 
 #include <inttypes.h>
@@ -18,8 +19,9 @@ const char *both_about = "";
 /* Outcomes: the kinds of answer but REFUSED at their numbers, then the refusals. */
 static uint64_t came[CALLS][KINDS + REFUSALS];
 
-static const char *const call_names[CALLS] = {"locate", "well_formed",    "found",      "split",              "merge",
-                                              "assign", "assign_counted", "assign_fix", "assign_fix_counted", "assign_missing"};
+const char *const both_names[CALLS] = {"locate", "well_formed",    "found",      "split",              "merge",
+                                       "assign", "assign_counted", "assign_fix", "assign_fix_counted", "assign_missing"};
+
 static const char *const kind_names[KINDS] = {"refused", "done", "vertex", "edge", "off", "border", "one", "none", "several"};
 
 #define KIND(kind) (1u << (LAUNCHRAMP_##kind))
@@ -42,19 +44,19 @@ static const uint32_t named[CALLS] = {
 
 bool both_same(struct plain_answer one, struct plain_answer other)
 {
-    return one.kind == other.kind && one.first == other.first && one.second == other.second;
+    return one.kind == other.kind && memcmp(one.values, other.values, sizeof one.values) == 0;
 }
 
 static size_t outcome(struct plain_answer answer)
 {
-    return answer.kind == LAUNCHRAMP_REFUSED ? KINDS + answer.first : answer.kind;
+    return answer.kind == LAUNCHRAMP_REFUSED ? KINDS + answer.values[0] : answer.kind;
 }
 
 bool both_all_reached(void)
 {
     bool all = true;
     for (size_t c = 0; c < CALLS; c++) {
-        printf("  %-18s", call_names[c]);
+        printf("  %-18s", both_names[c]);
         for (size_t o = 0; o < KINDS + REFUSALS; o++) {
             if (o < KINDS && came[c][o] > 0)
                 printf(" %s %" PRIu64, kind_names[o], came[c][o]);
@@ -100,12 +102,15 @@ static void print_lists(const char *when, const struct lists *l)
 
 static void print_answer(const char *who, struct plain_answer answer)
 {
-    printf("  %s: %s %" PRIu64 " %" PRIu64 "\n", who, answer.kind < KINDS ? kind_names[answer.kind] : "no kind", answer.first, answer.second);
+    printf("  %s: %s, values", who, answer.kind < KINDS ? kind_names[answer.kind] : "no kind");
+    for (size_t k = 0; k < LAUNCHRAMP_VALUES; k++)
+        printf(" %" PRIu64, answer.values[k]);
+    printf("\n");
 }
 
 static void print_call(const struct twice *t, const struct call *call)
 {
-    printf("launchramp_%s", call_names[call->which]);
+    printf("launchramp_%s", both_names[call->which]);
     if (call->which == SPLIT)
         printf(", d %zu, i %zu, j %zu", call->number[0], call->number[1], call->number[2]);
     if (call->which == MERGE)
@@ -141,7 +146,7 @@ static void differ(const struct twice *t, const struct call *call, const char *h
 static struct plain_answer plain_call(struct twice *t, const struct call *c)
 {
     const size_t *number = c->number;
-    const struct plain_answer well_formed = {LAUNCHRAMP_DONE, 0, 0}, not_well_formed = {LAUNCHRAMP_REFUSED, NOT_WELL_FORMED, 0};
+    const struct plain_answer well_formed = {LAUNCHRAMP_DONE, {0}}, not_well_formed = {LAUNCHRAMP_REFUSED, {NOT_WELL_FORMED}};
     if (c->which == LOCATE)
         return plain_locate(c->list, c->length, c->x, c->y);
     if (t->damaged)
@@ -198,7 +203,7 @@ static uint32_t library_call(struct twice *t, const struct call *c, uint64_t *va
     case ASSIGN_MISSING:
         return launchramp_assign_missing(l->outline, l->outline_length, l->store, l->store_length, l->runs, l->runs_length, values);
     default:
-        values[1] = 0;
+        memset(values, 0, LAUNCHRAMP_VALUES * sizeof values[0]);
         values[0] = launchramp_well_formed(l->outline, l->outline_length, l->store, l->store_length, l->runs, l->runs_length) ? 0
                                                                                                                               : NOT_WELL_FORMED;
         return values[0] == 0 ? LAUNCHRAMP_DONE : LAUNCHRAMP_REFUSED;
@@ -240,14 +245,15 @@ static void compare_lists(struct twice *t, const struct call *call, struct plain
 struct plain_answer both_ask(struct twice *t, const struct call *call)
 {
     static int32_t lent[MOST_LIST];
-    uint64_t values[LAUNCHRAMP_VALUES + 1] = {JUNK, JUNK, JUNK};
+    uint64_t values[LAUNCHRAMP_VALUES + 1];
     size_t bytes = call->length * sizeof lent[0];
     struct plain_answer expected = plain_call(t, call), got;
     both_calls++;
     memcpy(lent, call->list, bytes);
+    for (size_t k = 0; k <= LAUNCHRAMP_VALUES; k++)
+        values[k] = JUNK;
     got.kind = library_call(t, call, values);
-    got.first = values[0];
-    got.second = values[1];
+    memcpy(got.values, values, sizeof got.values);
     if (!both_same(got, expected) || values[LAUNCHRAMP_VALUES] != JUNK)
         differ(t, call, "the answer", got, expected);
     if (memcmp(lent, call->list, bytes) != 0)
@@ -255,6 +261,7 @@ struct plain_answer both_ask(struct twice *t, const struct call *call)
     if (call->which != LOCATE)
         compare_lists(t, call, got, expected);
     came[call->which][outcome(got)]++;
+    spans_count(t, call, &got);
     return got;
 }
 

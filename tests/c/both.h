@@ -59,6 +59,9 @@ struct call {
     double easting, northing;
 };
 
+/* As launchramp.h names the calls, without the library's name before them. */
+extern const char *const both_names[CALLS];
+
 /* How many calls were made so far. */
 extern uint64_t both_calls;
 

@@ -50,39 +50,43 @@ static struct value value_of(double metres)
 
 static void print_answer(const char *who, uint32_t kind, const uint64_t *values, const int32_t *point)
 {
-    printf("    %-10s kind %" PRIu32 ", values %" PRIu64 " %" PRIu64 ", point %" PRId32 " %" PRId32 "\n", who, kind, values[0], values[1],
-           point[0], point[1]);
+    printf("    %-10s kind %" PRIu32 ", values", who, kind);
+    for (size_t k = 0; k < LAUNCHRAMP_VALUES; k++)
+        printf(" %" PRIu64, values[k]);
+    printf(", point %" PRId32 " %" PRId32 "\n", point[0], point[1]);
 }
 
 static void count(struct plain_answer answer)
 {
     if (answer.kind == LAUNCHRAMP_DONE)
         came.placed++;
-    else if (answer.first == BEYOND_GRID)
+    else if (answer.values[0] == BEYOND_GRID)
         came.beyond++;
     else
         came.not_finite++;
 }
 
-/* The answer, both values, the point, written or left, and that nothing behind either list is touched. */
+/* The answer, all its values, the point, written or left, and that nothing behind either list is touched. */
 static void ask(const struct value *easting, const struct value *northing)
 {
     int32_t point[] = {JUNK, JUNK, JUNK};
-    uint64_t values[] = {JUNK, JUNK, JUNK};
+    uint64_t values[LAUNCHRAMP_VALUES + 1];
     struct plain_point at = {JUNK, JUNK};
     struct plain_answer expected = plain_place(easting->exact, northing->exact, &at);
-    const uint64_t told[] = {expected.first, expected.second, JUNK};
     const int32_t left[] = {at.x, at.y, JUNK};
+    for (size_t k = 0; k < LENGTH(values); k++)
+        values[k] = JUNK;
     uint32_t kind = launchramp_millimetres(easting->metres, northing->metres, point, values);
     count(expected);
-    if (kind == expected.kind && memcmp(values, told, sizeof told) == 0 && memcmp(point, left, sizeof left) == 0)
+    if (kind == expected.kind && memcmp(values, expected.values, sizeof expected.values) == 0 && values[LAUNCHRAMP_VALUES] == JUNK &&
+        memcmp(point, left, sizeof left) == 0)
         return;
     if (came.differ++ >= SHOWN)
         return;
     printf("  differs: easting %.17g (%016" PRIx64 "), northing %.17g (%016" PRIx64 ")\n", easting->metres, exact_bits(easting->metres),
            northing->metres, exact_bits(northing->metres));
     print_answer("launchramp", kind, values, point);
-    print_answer("exactly", expected.kind, told, left);
+    print_answer("exactly", expected.kind, expected.values, left);
 }
 
 /* Ordinary values, no two alike in millimetres. */

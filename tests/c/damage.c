@@ -334,7 +334,7 @@ static void ask_all(const struct kind *kind, enum make make, struct land land, s
     for (enum which which = WELL_FORMED; which < CALLS; which++) {
         struct call call = made_call(which, &good.rows, land);
         struct plain_answer answer = both_ask(&harmed, &call);
-        bool refused = answer.kind == LAUNCHRAMP_REFUSED && answer.first == NOT_WELL_FORMED;
+        bool refused = answer.kind == LAUNCHRAMP_REFUSED && answer.values[0] == NOT_WELL_FORMED;
         if (kind->known != EITHER && refused != (kind->known == DAMAGED))
             fail(kind, make_names[make], refused ? "a good register was refused by 1" : "a damaged register was taken");
         came->calls++;

@@ -11,6 +11,8 @@ static uint32_t told(uint64_t *values, uint32_t kind, uint64_t first, uint64_t s
 {
     values[0] = first;
     values[1] = second;
+    for (size_t k = 2; k < LAUNCHRAMP_VALUES; k++)
+        values[k] = 0;
     return kind;
 }
 
@@ -47,13 +49,41 @@ static int64_t determinant(int64_t px, int64_t py, int64_t qx, int64_t qy, int64
     return (px - x) * (qy - y) - (qx - x) * (py - y);
 }
 
+static bool is_vertex(const int32_t *ring, size_t i, int32_t x, int32_t y)
+{
+    return ring[2 * i] == x && ring[2 * i + 1] == y;
+}
+
+static bool between(int32_t a, int32_t p, int32_t q)
+{
+    return p < q ? p <= a && a <= q : q <= a && a <= p;
+}
+
+static bool is_on_edge(const int32_t *ring, size_t n, size_t i, int32_t x, int32_t y)
+{
+    const int32_t *p = &ring[2 * i], *q = &ring[2 * (i + 1 < n ? i + 1 : 0)];
+    return between(x, p[0], q[0]) && between(y, p[1], q[1]) && determinant(p[0], p[1], q[0], q[1], x, y) == 0;
+}
+
+/* The point is vertex v and no earlier one. */
+static uint32_t at_vertex(const int32_t *ring, size_t n, size_t v, int32_t x, int32_t y, uint64_t *values)
+{
+    size_t last = n - 1;
+    while (!is_vertex(ring, last, x, y))
+        last--;
+    return told(values, LAUNCHRAMP_VERTEX, v, last);
+}
+
 /* The point is on edge i and on no earlier one, and is no vertex up to the end of that edge. */
 static uint32_t on_edge(const int32_t *ring, size_t n, size_t i, int32_t x, int32_t y, uint64_t *values)
 {
+    size_t last = n - 1;
     for (size_t v = i + 2; v < n; v++)
-        if (ring[2 * v] == x && ring[2 * v + 1] == y)
-            return told(values, LAUNCHRAMP_VERTEX, v, 0);
-    return told(values, LAUNCHRAMP_EDGE, i, 0);
+        if (is_vertex(ring, v, x, y))
+            return at_vertex(ring, n, v, x, y, values);
+    while (!is_on_edge(ring, n, last, x, y))
+        last--;
+    return told(values, LAUNCHRAMP_EDGE, i, last);
 }
 
 uint32_t paper_locate(const int32_t *ring, size_t ring_length, int32_t x, int32_t y, uint64_t *values)
@@ -65,13 +95,13 @@ uint32_t paper_locate(const int32_t *ring, size_t ring_length, int32_t x, int32_
     int32_t px = ring[0], py = ring[1];
     int64_t turns = 0;
     if (px == x && py == y)
-        return told(values, LAUNCHRAMP_VERTEX, 0, 0);
+        return at_vertex(ring, n, 0, x, y, values);
     for (size_t i = 0; i < n; i++) {
         size_t ahead = i + 1 < n ? i + 1 : 0;
         int32_t qx = ring[2 * ahead], qy = ring[2 * ahead + 1];
         if (qy == y) {
             if (qx == x)
-                return told(values, LAUNCHRAMP_VERTEX, ahead, 0);
+                return at_vertex(ring, n, ahead, x, y, values);
             if (py == y && (qx > x) == (px < x))
                 return on_edge(ring, n, i, x, y, values);
         }
@@ -112,28 +142,30 @@ uint32_t table_locate(const int32_t *ring, size_t ring_length, int32_t x, int32_
     uint64_t refused = refusal(ring, ring_length, x, y);
     if (refused != 0)
         return told(values, LAUNCHRAMP_REFUSED, refused, 0);
-    size_t n = ring_length / 2, edge = n;
+    size_t n = ring_length / 2, edge = n, last_edge = n;
     int32_t px = ring[0], py = ring[1], quarters = 0;
     unsigned from = quadrant(px, py, x, y);
     if (px == x && py == y)
-        return told(values, LAUNCHRAMP_VERTEX, 0, 0);
+        return at_vertex(ring, n, 0, x, y, values);
     for (size_t i = 0; i < n; i++) {
         size_t ahead = i + 1 < n ? i + 1 : 0;
         int32_t qx = ring[2 * ahead], qy = ring[2 * ahead + 1];
         if (qx == x && qy == y)
-            return told(values, LAUNCHRAMP_VERTEX, ahead, 0);
+            return at_vertex(ring, n, ahead, x, y, values);
         unsigned to = quadrant(qx, qy, x, y);
         int32_t turn = TURNS[from][to];
         if (turn == BY_DETERMINANT) {
             int64_t d = determinant(px, py, qx, qy, x, y);
             turn = d > 0 ? 2 : d < 0 ? -2 : 0;
-            if (d == 0 && edge == n)
-                edge = i;
+            if (d == 0) {
+                edge = edge == n ? i : edge;
+                last_edge = i;
+            }
         }
         quarters += turn;
         from = to;
         px = qx;
         py = qy;
     }
-    return edge < n ? told(values, LAUNCHRAMP_EDGE, edge, 0) : off(values, quarters / 4);
+    return edge < n ? told(values, LAUNCHRAMP_EDGE, edge, last_edge) : off(values, quarters / 4);
 }

@@ -99,6 +99,55 @@ void live_with_a_full_store(void)
     live(land, 60, 5, 2);
 }
 
+static void found_with_repeated_places(struct land land)
+{
+    static struct made_list ring;
+    made_list_of(&ring, few_vertices(), land);
+    switch (below(3)) {
+    case 0:
+        made_doubled_corner(&ring);
+        break;
+    case 1:
+        made_spike(&ring, land);
+        break;
+    default:
+        made_again(&ring, false);
+    }
+    struct call call = {.which = FOUND, .list = ring.at, .length = ring.length};
+    both_ask(&life, &call);
+}
+
+/* By any of the calls that sort a report. */
+static void report_from(struct plain_point r)
+{
+    static const enum which calls[] = {ASSIGN, ASSIGN_COUNTED, ASSIGN_FIX, ASSIGN_FIX_COUNTED};
+    struct call call = {.which = calls[below(LENGTH(calls))], .list = made_no_list, .x = r.x, .y = r.y};
+    call.easting = made_metres(r.x);
+    call.northing = made_metres(r.y);
+    both_ask(&life, &call);
+}
+
+static void report_all_round(const struct plain_ring *ring)
+{
+    for (size_t i = 0; i < ring->n; i++) {
+        report_from(ring->at[i]);
+        report_from(made_middle((const int32_t *)ring->at, 2 * ring->n, i));
+    }
+}
+
+void live_with_repeated_places(void)
+{
+    const struct land land = {(int32_t)(1 + below(30)), 2};
+    lives_start(&life);
+    memset(life.counts, 0, sizeof life.counts);
+    both_retally(&life);
+    found_with_repeated_places(land);
+    for (int t = 0; t < 10; t++) {
+        report_all_round(&life.rows.district[made_district(&life.rows)]);
+        lives_ask(&life, once_in(3) ? MERGE : SPLIT, land);
+    }
+}
+
 static bool turned(const struct plain_ring *ring, const struct plain_ring *before, size_t from)
 {
     if (ring->n != before->n)
@@ -120,9 +169,9 @@ static bool split_and_take_back(struct land land)
     struct plain_answer made = both_ask(&life, &split);
     if (made.kind != LAUNCHRAMP_DONE)
         return false;
-    struct call merge = made_merge_back(&split, n, made.first);
+    struct call merge = made_merge_back(&split, n, made.values[0]);
     struct plain_answer kept = both_ask(&life, &merge);
-    if (kept.kind == LAUNCHRAMP_DONE && kept.first == d && turned(&life.rows.district[d], &before, split.number[1]))
+    if (kept.kind == LAUNCHRAMP_DONE && kept.values[0] == d && turned(&life.rows.district[d], &before, split.number[1]))
         return true;
     printf("%s: call %" PRIu64 " did not take back the split before it\n", both_about, both_calls);
     exit(1);

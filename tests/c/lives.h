@@ -18,6 +18,10 @@ void live_small(void);
 void live_with_all_numbers_in_use(void);
 void live_with_a_full_store(void);
 
+/* Founded with a doubled corner, a spike or the whole ring twice over. Before every change reports come from every vertex and from the middle of every
+ * edge of some district. */
+void live_with_repeated_places(void);
+
 /* Every accepted split is taken back by a merge, which must be accepted and leave the ring that was split, from its vertex i on. */
 void live_there_and_back(void);
 

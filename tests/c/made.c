@@ -2,6 +2,7 @@
 #include "made.h"
 
 #include <math.h>
+#include <string.h>
 
 #define BEYOND (PLAIN_LIMIT + 1)
 
@@ -36,30 +37,47 @@ void made_list_of(struct made_list *list, size_t vertices, struct land land)
         list->at[i] = made_coordinate(land);
 }
 
-static void append(struct made_list *list, int32_t x, int32_t y)
+/* Puts a vertex in place i of the list, where there is room for it. */
+static void insert(struct made_list *list, size_t i, int32_t x, int32_t y)
 {
+    int32_t *place = list->at + 2 * i;
     if (list->length + 2 > 2 * PLAIN_MOST_VERTICES)
         return;
-    list->at[list->length++] = x;
-    list->at[list->length++] = y;
+    memmove(place + 2, place, (list->length - 2 * i) * sizeof list->at[0]);
+    place[0] = x;
+    place[1] = y;
+    list->length += 2;
 }
 
-void made_double(struct made_list *list)
+void made_again(struct made_list *list, bool backward)
 {
     size_t n = list->length / 2;
-    bool backward = once_in(3);
     for (size_t i = 0; i < n; i++) {
         size_t from = backward ? n - 1 - i : i;
-        append(list, list->at[2 * from], list->at[2 * from + 1]);
+        insert(list, n + i, list->at[2 * from], list->at[2 * from + 1]);
     }
 }
 
-void made_spike(struct made_list *list, struct land land)
+size_t made_doubled_corner(struct made_list *list)
 {
-    int32_t x = list->at[list->length - 2], y = list->at[list->length - 1];
-    if (once_in(2))
-        append(list, made_coordinate(land), once_in(2) ? y : made_coordinate(land));
-    append(list, x, y);
+    size_t i = below(list->length / 2);
+    insert(list, i, list->at[2 * i], list->at[2 * i + 1]);
+    return i;
+}
+
+size_t made_spike(struct made_list *list, struct land land)
+{
+    size_t i = made_doubled_corner(list);
+    int32_t level = list->at[2 * i + 1];
+    insert(list, i + 1, made_coordinate(land), once_in(2) ? level : made_coordinate(land));
+    return i;
+}
+
+struct plain_point made_middle(const int32_t *list, size_t length, size_t i)
+{
+    const int32_t *p = list + 2 * i, *q = list + (2 * i + 2) % length;
+    struct plain_point middle = {(int32_t)(((int64_t)p[0] + q[0]) / 2), (int32_t)(((int64_t)p[1] + q[1]) / 2)};
+    return middle;
 }
 
 struct plain_point made_point(const int32_t *list, size_t length, struct land land)
@@ -68,13 +86,11 @@ struct plain_point made_point(const int32_t *list, size_t length, struct land la
     size_t n = length / 2;
     if (n == 0 || once_in(3))
         return r;
-    size_t i = below(n), next = i + 1 < n ? i + 1 : 0;
+    size_t i = below(n);
     r.x = list[2 * i];
     r.y = list[2 * i + 1];
-    if (!once_in(4)) {
-        r.x = (int32_t)(((int64_t)r.x + list[2 * next]) / 2);
-        r.y = (int32_t)(((int64_t)r.y + list[2 * next + 1]) / 2);
-    }
+    if (!once_in(4))
+        r = made_middle(list, 2 * n, i);
     if (once_in(4) && r.x < PLAIN_LIMIT)
         r.x++;
     if (once_in(4) && r.y < PLAIN_LIMIT)
@@ -275,7 +291,9 @@ struct call made_founding(struct land land, size_t vertices)
 {
     made_list_of(&ring, once_in(20) ? PLAIN_MOST_VERTICES + 1 : vertices, land);
     if (once_in(6))
-        made_double(&ring);
+        made_again(&ring, once_in(3));
+    if (once_in(6))
+        made_doubled_corner(&ring);
     if (once_in(6))
         made_spike(&ring, land);
     if (once_in(4))
@@ -324,5 +342,5 @@ void made_remember(const struct call *call, size_t vertices, struct plain_answer
         return;
     made_forget();
     if (call->which == SPLIT)
-        undoing = made_merge_back(call, vertices, answer.first);
+        undoing = made_merge_back(call, vertices, answer.values[0]);
 }

@@ -42,11 +42,17 @@ int32_t made_coordinate(struct land land);
 int32_t made_beyond(void);
 void made_list_of(struct made_list *list, size_t vertices, struct land land);
 
-/* The ring once more, forward or backward. */
-void made_double(struct made_list *list);
+/* The next three add what there is room for in a ring of 2,048 vertices. The ring once more behind itself. */
+void made_again(struct made_list *list, bool backward);
 
-/* From the last vertex out to a tip and back, or to itself. */
-void made_spike(struct made_list *list, struct land land);
+/* Some vertex once more, right behind itself: a doubled corner. Answers the index of the first of the two. */
+size_t made_doubled_corner(struct made_list *list);
+
+/* From some vertex out to a tip and back. Answers the vertex's index i: the tip is vertex i + 1, and vertex i + 2 is vertex i again. */
+size_t made_spike(struct made_list *list, struct land land);
+
+/* The middle of edge i, or the whole millimetre beside it that is nearer to 0. */
+struct plain_point made_middle(const int32_t *list, size_t length, size_t i);
 
 /* A point near a list's vertices and edges, or anywhere on the land. */
 struct plain_point made_point(const int32_t *list, size_t length, struct land land);

@@ -7,7 +7,7 @@ __extension__ typedef __int128 wide;
 
 static struct plain_answer told(uint32_t kind, uint64_t first, uint64_t second)
 {
-    struct plain_answer answer = {kind, first, second};
+    struct plain_answer answer = {kind, {first, second}};
     return answer;
 }
 
@@ -78,14 +78,33 @@ static int winding(const struct plain_point *at, size_t n, struct plain_point r)
     return turns;
 }
 
+/* The indices of a ring at which a point was met: how many, the lowest and the highest. */
+struct met {
+    size_t many, lowest, highest;
+};
+
+/* Indices come in their order. */
+static void meet(struct met *met, size_t i)
+{
+    if (met->many++ == 0)
+        met->lowest = i;
+    met->highest = i;
+}
+
+/* Every vertex is looked at, and then every edge. */
 static struct plain_answer located(const struct plain_point *at, size_t n, struct plain_point r)
 {
+    struct met vertices = {0, 0, 0}, edges = {0, 0, 0};
     for (size_t i = 0; i < n; i++)
         if (same_point(at[i], r))
-            return told(LAUNCHRAMP_VERTEX, i, 0);
+            meet(&vertices, i);
+    if (vertices.many > 0)
+        return told(LAUNCHRAMP_VERTEX, vertices.lowest, vertices.highest);
     for (size_t i = 0; i < n; i++)
         if (on_edge(at[i], at[next(i, n)], r))
-            return told(LAUNCHRAMP_EDGE, i, 0);
+            meet(&edges, i);
+    if (edges.many > 0)
+        return told(LAUNCHRAMP_EDGE, edges.lowest, edges.highest);
     int turns = winding(at, n, r);
     return turns < 0 ? told(LAUNCHRAMP_OFF, (uint64_t)-turns, 1) : told(LAUNCHRAMP_OFF, (uint64_t)turns, 0);
 }
@@ -246,6 +265,16 @@ struct plain_answer plain_merge(struct plain_register *g, size_t kept, size_t a,
     return told(LAUNCHRAMP_DONE, kept, 0);
 }
 
+/* On the ring of district d, at this place of it. */
+static struct plain_answer on_border(size_t d, struct plain_answer place)
+{
+    struct plain_answer answer = told(LAUNCHRAMP_BORDER, d, 0);
+    answer.values[LAUNCHRAMP_VALUE_ON] = place.kind;
+    answer.values[LAUNCHRAMP_VALUE_LOWEST] = place.values[0];
+    answer.values[LAUNCHRAMP_VALUE_HIGHEST] = place.values[1];
+    return answer;
+}
+
 static struct plain_answer sorted(const struct plain_register *g, struct plain_point r)
 {
     size_t lowest = 0, many = 0;
@@ -254,8 +283,8 @@ static struct plain_answer sorted(const struct plain_register *g, struct plain_p
             continue;
         struct plain_answer place = located(g->district[d].at, g->district[d].n, r);
         if (place.kind != LAUNCHRAMP_OFF)
-            return told(LAUNCHRAMP_BORDER, d, 0);
-        if (place.first != 0 && many++ == 0)
+            return on_border(d, place);
+        if (place.values[0] != 0 && many++ == 0)
             lowest = d;
     }
     if (many == 0)
@@ -308,7 +337,7 @@ static uint32_t *count_of(uint32_t *counts, struct plain_answer sorted)
     case LAUNCHRAMP_SEVERAL:
         return &counts[LAUNCHRAMP_COUNT_SEVERAL];
     default:
-        return &counts[sorted.first];
+        return &counts[sorted.values[0]];
     }
 }
 

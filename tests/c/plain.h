@@ -47,9 +47,10 @@ struct plain_register {
     struct plain_ring district[PLAIN_NUMBERS];
 };
 
+/* Every value, those without a meaning too, which are 0. */
 struct plain_answer {
     uint32_t kind;
-    uint64_t first, second;
+    uint64_t values[LAUNCHRAMP_VALUES];
 };
 
 /* How many vertices all districts have. */

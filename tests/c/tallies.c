@@ -96,7 +96,7 @@ static void expect(struct call call, struct plain_answer expected, size_t count,
         fail(count, "the tally afterwards");
 }
 
-static const struct plain_answer count_full = {LAUNCHRAMP_REFUSED, COUNT_FULL, 0};
+static const struct plain_answer count_full = {LAUNCHRAMP_REFUSED, {COUNT_FULL}};
 
 static void reach_limit(struct call call, struct sort sort, bool others_full)
 {
@@ -113,7 +113,7 @@ static void reach_limit(struct call call, struct sort sort, bool others_full)
 /* A report beyond the grid and one that is not finite, with the count at n. */
 static void pass(size_t count, uint32_t n)
 {
-    static const struct plain_answer beyond = {LAUNCHRAMP_REFUSED, BEYOND_GRID, 0}, not_finite = {LAUNCHRAMP_REFUSED, NOT_FINITE, 0};
+    static const struct plain_answer beyond = {LAUNCHRAMP_REFUSED, {BEYOND_GRID}}, not_finite = {LAUNCHRAMP_REFUSED, {NOT_FINITE}};
     struct call on_grid = {.which = ASSIGN_COUNTED, .list = made_no_list, .x = PLAIN_LIMIT + 1, .y = 2};
     struct call fix = {.which = ASSIGN_FIX_COUNTED, .list = made_no_list, .easting = made_metres(PLAIN_LIMIT + 1), .northing = 0.002};
     hold(count, n, false);
@@ -139,27 +139,39 @@ static void ask_sort(struct sort sort)
     pass(sort.count, MOST);
 }
 
-/* In the triangle alone, at a corner of both districts, away from both, in both. */
+/* On the ring of district d, at its vertex or on its edge i alone. */
+static struct plain_answer on_border(size_t d, uint32_t on, size_t i)
+{
+    struct plain_answer answer = {LAUNCHRAMP_BORDER, {d}};
+    answer.values[LAUNCHRAMP_VALUE_ON] = on;
+    answer.values[LAUNCHRAMP_VALUE_LOWEST] = answer.values[LAUNCHRAMP_VALUE_HIGHEST] = i;
+    return answer;
+}
+
+/* In the triangle alone, at a corner of both districts, away from both, in both. The corner is the triangle's vertex 0 and the other
+ * district's vertex 3. */
 static void ask_square(size_t d)
 {
     const struct sort sorts[] = {
-        {2, 2, {LAUNCHRAMP_ONE, d, 0}, d},
-        {0, 0, {LAUNCHRAMP_BORDER, 0, 0}, LAUNCHRAMP_COUNT_BORDER},
-        {9, 9, {LAUNCHRAMP_NONE, 0, 0}, LAUNCHRAMP_COUNT_NONE},
-        {2, 6, {LAUNCHRAMP_SEVERAL, 0, 2}, LAUNCHRAMP_COUNT_SEVERAL},
+        {2, 2, {LAUNCHRAMP_ONE, {d}}, d},
+        {0, 0, on_border(0, LAUNCHRAMP_VERTEX, d == 0 ? 0 : 3), LAUNCHRAMP_COUNT_BORDER},
+        {9, 9, {LAUNCHRAMP_NONE, {0}}, LAUNCHRAMP_COUNT_NONE},
+        {2, 6, {LAUNCHRAMP_SEVERAL, {0, 2}}, LAUNCHRAMP_COUNT_SEVERAL},
     };
     make_square(d);
     for (size_t i = 0; i < LENGTH(sorts); i++)
         ask_sort(sorts[i]);
 }
 
+/* A strip's edge 1 goes down its left side and its edge 3 up its right one; the last strip, of which only the inside is asked, begins elsewhere. */
 static void ask_strips(void)
 {
     make_strips();
     for (size_t d = 0; d < PLAIN_NUMBERS; d++) {
         const int32_t x = 4 * (int32_t)d;
-        const struct sort one = {x + 2, 2, {LAUNCHRAMP_ONE, d, 0}, d};
-        const struct sort border = {x, 2, {LAUNCHRAMP_BORDER, d == 0 ? 0 : d - 1, 0}, LAUNCHRAMP_COUNT_BORDER};
+        const struct plain_answer left = d == 0 ? on_border(0, LAUNCHRAMP_EDGE, 1) : on_border(d - 1, LAUNCHRAMP_EDGE, 3);
+        const struct sort one = {x + 2, 2, {LAUNCHRAMP_ONE, {d}}, d};
+        const struct sort border = {x, 2, left, LAUNCHRAMP_COUNT_BORDER};
         ask_sort(one);
         ask_sort(border);
     }
@@ -192,7 +204,7 @@ static bool raise_by_hand(uint32_t *counts, struct plain_answer answer)
     case LAUNCHRAMP_REFUSED:
         return false;
     case LAUNCHRAMP_ONE:
-        counts[answer.first]++;
+        counts[answer.values[0]]++;
         return true;
     default:
         counts[answer.kind == LAUNCHRAMP_BORDER ? LAUNCHRAMP_COUNT_BORDER

@@ -2,11 +2,12 @@
 // numbers that are never negative, MIDDLE for 0; the grid's go from 1 to 2 MIDDLE - 1.
 use crate::ROOM;
 use crate::chance::draw;
+use crate::chance::seldom;
 use test_rows::wrapped;
 ghost use mathlib.Core.Path.{_≡_};
 ghost use Prim.Native.Nat.{_+_, _*_, _≤_, _<_};
 ghost use lib.ListN.{length};
-ghost use Rattle.test_cases.specs.Room.{room, OnGrid};
+ghost use Rattle.test_cases.specs.Room.{room, OnGrid, Drawn};
 
 const FEWEST_VERTICES: usize = 3;
 
@@ -25,7 +26,7 @@ pub enum Kind {
     Doubled,
     // Edges of no length, and ways out and back.
     Spiked,
-    // Long edges from limit to limit, and points on and beside their middles.
+    // Long edges from limit to limit, half of the rings spiked, and points on and beside the middles of edges.
     Limits,
     // Up to 2,048 vertices, some of them a short ring listed over and over.
     Long,
@@ -45,6 +46,14 @@ struct Shape {
     whole: usize,
     once: usize,
     spiked: bool,
+}
+
+// An edge from p to q.
+struct Edge {
+    px: usize,
+    py: usize,
+    qx: usize,
+    qy: usize,
 }
 
 // From -2 to 2; from -50 to 50; or within two of zero and within four of the grid's limits.
@@ -123,6 +132,7 @@ fn shape_of(what: Kind, seed: &mut usize) -> Shape
         Kind::Doubled => listed_again(seed),
         Kind::Long => long(seed),
         Kind::Spiked => few(true, seed),
+        Kind::Limits => few(draw(seed, 2) == 0, seed),
         _ => few(false, seed),
     }
 }
@@ -134,17 +144,25 @@ fn put(list: &mut [i32], i: usize, x: i32, y: i32)
     list[2 * i + 1] = y;
 }
 
-// How far back the vertex stands that vertex i repeats: one of the two before it, or the one of the round before; 0 for a new one.
-fn back(i: usize, once: usize, spiked: bool, seed: &mut usize) -> usize
+// How far back the vertex stands that vertex i repeats, one of the two before it; 0 for one of its own.
+fn back(i: usize, spiked: bool, seed: &mut usize) -> usize
     ensures { λ r. ⌜ r ≤ i ⌝ }
 {
-    if once <= i {
-        return once;
-    }
     if i < 2 {
         return 0;
     }
     if spiked { draw(seed, 3) } else { 0 }
+}
+
+// Has vertex i be the one so far back.
+fn repeat(list: &mut [i32], i: usize, back: usize)
+    requires { ⌜ 2 * i + 1 < length (now list) ⌝ }
+    requires { ⌜ back ≤ i ⌝ }
+{
+    let from = i - back;
+    let x = list[2 * from];
+    let y = list[2 * from + 1];
+    put(list, i, x, y);
 }
 
 // Writes vertex i.
@@ -157,53 +175,79 @@ fn vertex(list: &mut [i32], i: usize, back: usize, what: Kind, seed: &mut usize)
         put(list, i, x, coordinate(drawn(what, seed)));
         return;
     }
-    let from = i - back;
-    let x = list[2 * from];
-    let y = list[2 * from + 1];
-    put(list, i, x, y);
+    repeat(list, i, back);
 }
 
-fn fill(list: &mut [i32], n: usize, once: usize, spiked: bool, what: Kind, seed: &mut usize)
+// Writes the first n vertices.
+fn fill(list: &mut [i32], n: usize, spiked: bool, what: Kind, seed: &mut usize)
     requires { ⌜ n + n ≤ length (now list) ⌝ }
 {
     let mut i = 0;
     while i < n {
-        vertex(list, i, back(i, once, spiked, seed), what, seed);
+        vertex(list, i, back(i, spiked, seed), what, seed);
         i += 1;
     }
 }
 
-// Half the time has some edge of the first n vertices run from p to q.
-fn edge(list: &mut [i32], n: usize, px: usize, py: usize, qx: usize, qy: usize, seed: &mut usize)
+// Lists the first vertices over and over.
+fn list_again(list: &mut [i32], once: usize, whole: usize)
+    requires { ⌜ whole + whole ≤ length (now list) ⌝ }
+{
+    let mut i = once;
+    while i < whole {
+        repeat(list, i, once);
+        i += 1;
+    }
+}
+
+// An edge between places drawn like vertices, seldom of no length.
+fn drawn_edge(what: Kind, seed: &mut usize) -> Edge
+    ensures { λ r. ⌜ Drawn r ⌝ }
+{
+    let px = drawn(what, seed);
+    let py = drawn(what, seed);
+    if seldom(seed) {
+        return Edge {
+            px,
+            py,
+            qx: px,
+            qy: py,
+        };
+    }
+    Edge {
+        px,
+        py,
+        qx: drawn(what, seed),
+        qy: drawn(what, seed),
+    }
+}
+
+// Half the time has some edge of the first n vertices run from p to q, and the next one back where there are spikes.
+fn plant(list: &mut [i32], n: usize, e: Edge, spiked: bool, seed: &mut usize)
     requires { ⌜ length (now list) ≡ room ⌝ }
     requires { ⌜ (0 < n) × (n ≤ 2048) ⌝ }
-    requires { ⌜ (OnGrid px) × (OnGrid py) ⌝ }
-    requires { ⌜ (OnGrid qx) × (OnGrid qy) ⌝ }
+    requires { ⌜ Drawn e ⌝ }
 {
     let i = draw(seed, n);
     if draw(seed, 2) == 0 {
         return;
     }
-    put(list, i, coordinate(px), coordinate(py));
-    put(list, wrapped(i + 1, n), coordinate(qx), coordinate(qy));
+    put(list, i, coordinate(e.px), coordinate(e.py));
+    put(list, wrapped(i + 1, n), coordinate(e.qx), coordinate(e.qy));
+    if spiked {
+        put(list, wrapped(i + 2, n), coordinate(e.px), coordinate(e.py));
+    }
 }
 
-// The case of the first n vertices, with a point half way between two drawn like them, which may become an edge.
-fn case_of(list: &mut [i32], n: usize, what: Kind, seed: &mut usize) -> Case
+// Writes a ring of a shape, an edge planted in every round of it.
+fn write(list: &mut [i32], s: Shape, e: Edge, what: Kind, seed: &mut usize)
     requires { ⌜ length (now list) ≡ room ⌝ }
-    requires { ⌜ (0 < n) × (n ≤ 2048) ⌝ }
-    ensures { λ r. ⌜ r .m ≤ room ⌝ }
+    requires { ⌜ (0 < s .once) × (s .once ≤ s .whole) × (s .whole ≤ 2048) ⌝ }
+    requires { ⌜ Drawn e ⌝ }
 {
-    let px = drawn(what, seed);
-    let py = drawn(what, seed);
-    let qx = drawn(what, seed);
-    let qy = drawn(what, seed);
-    edge(list, n, px, py, qx, qy, seed);
-    Case {
-        m: n + n,
-        x: half_way(px, qx, seed),
-        y: half_way(py, qy, seed),
-    }
+    fill(list, s.once, s.spiked, what, seed);
+    plant(list, s.once, e, s.spiked, seed);
+    list_again(list, s.once, s.whole);
 }
 
 // A number beyond the grid in place of x, if told to.
@@ -254,14 +298,20 @@ fn broken(list: &mut [i32], m: usize, seed: &mut usize) -> Case
     }
 }
 
+// A ring and a point half way along an edge that may have been planted in it.
 pub fn make(what: Kind, list: &mut [i32], seed: &mut usize) -> Case
     requires { ⌜ length (now list) ≡ room ⌝ }
     ensures { λ r. ⌜ r .m ≤ room ⌝ }
 {
     let s = shape_of(what, seed);
-    fill(list, s.whole, s.once, s.spiked, what, seed);
+    let e = drawn_edge(what, seed);
+    write(list, s, e, what, seed);
     match what {
         Kind::Broken => broken(list, 2 * s.whole, seed),
-        _ => case_of(list, s.whole, what, seed),
+        _ => Case {
+            m: 2 * s.whole,
+            x: half_way(e.px, e.qx, seed),
+            y: half_way(e.py, e.qy, seed),
+        },
     }
 }

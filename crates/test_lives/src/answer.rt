@@ -7,40 +7,54 @@ use refusals::Refusal;
 use register::Founded;
 use ring::Located;
 use ring::Parity;
+use ring::Touch;
 use test_rows::Belongs;
+use test_rows::Met;
 use test_rows::Told;
 use test_second::Length;
 use test_second::Where;
 
+// On a ring: at one vertex or at several, on one edge or on several.
 pub const VERTEX: usize = 0;
 
-pub const EDGE: usize = 1;
+pub const VERTICES: usize = 1;
+
+pub const EDGE: usize = 2;
+
+pub const EDGES: usize = 3;
 
 // Off the ring: wound about not at all, once, or more often.
-pub const OFF: usize = 2;
+pub const OFF: usize = 4;
 
-pub const OFF_ONCE: usize = 3;
+pub const OFF_ONCE: usize = 5;
 
-pub const OFF_MORE: usize = 4;
+pub const OFF_MORE: usize = 6;
 
-pub const FOUNDED: usize = 5;
+pub const FOUNDED: usize = 7;
 
-pub const SPLIT: usize = 6;
+pub const SPLIT: usize = 8;
 
-pub const MERGED: usize = 7;
+pub const MERGED: usize = 9;
 
-pub const BORDER: usize = 8;
+// A report on a district's ring, by where on it.
+pub const BORDER_VERTEX: usize = 10;
 
-pub const ONE: usize = 9;
+pub const BORDER_VERTICES: usize = 11;
 
-pub const NONE: usize = 10;
+pub const BORDER_EDGE: usize = 12;
 
-pub const SEVERAL: usize = 11;
+pub const BORDER_EDGES: usize = 13;
+
+pub const ONE: usize = 14;
+
+pub const NONE: usize = 15;
+
+pub const SEVERAL: usize = 16;
 
 // Metres as millimetres of the grid.
-pub const PLACED: usize = 12;
+pub const PLACED: usize = 17;
 
-pub const REFUSED: usize = 13;
+pub const REFUSED: usize = 18;
 
 // Direction and parity of a winding number.
 pub const EVEN: usize = 0;
@@ -51,12 +65,17 @@ pub const CLOCKWISE_EVEN: usize = 2;
 
 pub const CLOCKWISE_ODD: usize = 3;
 
-// What was answered; the index, the winding number's size, the district's number, the refusal's or the size in millimetres; how many
-// districts, for SEVERAL, direction and parity, off a ring, or 1 for millimetres below 0; and the report's number, for a report that is not refused.
+// An answer. A number that it does not have is 0.
 pub struct Answer {
     pub what: usize,
+    // The winding number's size, the district's number, the refusal's, or the size in millimetres.
     pub number: usize,
+    // How many districts, for SEVERAL; direction and parity, off a ring; or 1 for millimetres below 0.
     pub more: usize,
+    // On a ring, the lowest and the highest index of the vertices or edges.
+    pub lowest: usize,
+    pub highest: usize,
+    // The report's number, for a report that is not refused.
     pub report: usize,
 }
 
@@ -73,12 +92,20 @@ impl Answer {
             what,
             number,
             more: 0,
+            lowest: 0,
+            highest: 0,
             report: 0,
         }
     }
 
     fn with(mut self, more: usize) -> Answer {
         self.more = more;
+        self
+    }
+
+    fn between(mut self, lowest: usize, highest: usize) -> Answer {
+        self.lowest = lowest;
+        self.highest = highest;
         self
     }
 
@@ -97,9 +124,33 @@ impl Both {
         (a.what == b.what)
             & (a.number == b.number)
             & (a.more == b.more)
+            & (a.lowest == b.lowest)
+            & (a.highest == b.highest)
             & (a.report == b.report)
             & self.rings
     }
+}
+
+// One kind or the other, by whether the lowest index is the highest.
+fn spread(one: usize, several: usize, lowest: usize, highest: usize) -> usize {
+    if lowest == highest { one } else { several }
+}
+
+fn at_vertices(lowest: usize, highest: usize) -> Answer {
+    Answer::of(spread(VERTEX, VERTICES, lowest, highest), 0).between(lowest, highest)
+}
+
+fn on_edges(lowest: usize, highest: usize) -> Answer {
+    Answer::of(spread(EDGE, EDGES, lowest, highest), 0).between(lowest, highest)
+}
+
+// The same for a report, on the ring of district d.
+fn border_at_vertices(d: usize, lowest: usize, highest: usize) -> Answer {
+    Answer::of(spread(BORDER_VERTEX, BORDER_VERTICES, lowest, highest), d).between(lowest, highest)
+}
+
+fn border_on_edges(d: usize, lowest: usize, highest: usize) -> Answer {
+    Answer::of(spread(BORDER_EDGE, BORDER_EDGES, lowest, highest), d).between(lowest, highest)
 }
 
 fn off(turns: usize, backwards: bool, odd: bool) -> Answer {
@@ -119,10 +170,16 @@ fn is_odd(p: Parity) -> bool {
     }
 }
 
+fn touched(t: Touch) -> Answer {
+    match t {
+        Touch::Vertex(lowest, highest) => at_vertices(lowest, highest),
+        Touch::Edge(lowest, highest) => on_edges(lowest, highest),
+    }
+}
+
 pub fn by_ring(place: Located) -> Answer {
     match place {
-        Located::Vertex(i) => Answer::of(VERTEX, i),
-        Located::Edge(i) => Answer::of(EDGE, i),
+        Located::On(t) => touched(t),
         Located::Off(w, p) => off(test_second::size(w.0) as usize, w.0 < 0, is_odd(p)),
         Located::Refused(r) => Answer::of(REFUSED, refusals::number(r)),
     }
@@ -130,8 +187,8 @@ pub fn by_ring(place: Located) -> Answer {
 
 pub fn by_second(place: Where) -> Answer {
     match place {
-        Where::Corner(i) => Answer::of(VERTEX, i),
-        Where::Side(i) => Answer::of(EDGE, i),
+        Where::Corner(lowest, highest) => at_vertices(lowest, highest),
+        Where::Side(lowest, highest) => on_edges(lowest, highest),
         Where::Away { times, backwards } => off(times as usize, backwards, times % 2 == 1),
         Where::Refused(no) => Answer::of(REFUSED, no as usize),
     }
@@ -158,9 +215,16 @@ pub fn told(what: usize, t: Told) -> Answer {
     }
 }
 
+fn bordered(d: usize, t: Touch) -> Answer {
+    match t {
+        Touch::Vertex(lowest, highest) => border_at_vertices(d, lowest, highest),
+        Touch::Edge(lowest, highest) => border_on_edges(d, lowest, highest),
+    }
+}
+
 fn classed(c: Class) -> Answer {
     match c {
-        Class::Border(d) => Answer::of(BORDER, d),
+        Class::Border(d, t) => bordered(d, t),
         Class::One(d) => Answer::of(ONE, d),
         Class::None => Answer::of(NONE, 0),
         Class::Several(d, many) => Answer::of(SEVERAL, d).with(many),
@@ -177,9 +241,16 @@ pub fn assigned(a: Assigned) -> Answer {
     }
 }
 
+fn met(d: usize, m: Met) -> Answer {
+    if m.corner {
+        return border_at_vertices(d, m.lowest, m.highest);
+    }
+    border_on_edges(d, m.lowest, m.highest)
+}
+
 fn placed(b: Belongs) -> Answer {
     match b {
-        Belongs::Border(d) => Answer::of(BORDER, d),
+        Belongs::Border(d, m) => met(d, m),
         Belongs::One(d) => Answer::of(ONE, d),
         Belongs::None => Answer::of(NONE, 0),
         Belongs::Several(d, many) => Answer::of(SEVERAL, d).with(many),

@@ -4,7 +4,7 @@ use crate::answer::REFUSED;
 use test_cases::chance::mixed;
 
 // Every kind of answer, and every refusal by its number.
-pub const KINDS: usize = 33;
+pub const KINDS: usize = 38;
 
 pub struct Score {
     pub asked: usize,
@@ -46,7 +46,9 @@ impl Score {
             s.counts[kind] = sum(s.counts[kind], 1);
         }
         s.asked = sum(s.asked, 1);
-        s.digest = mixed(mixed(s.digest, a.what), mixed(a.number, a.more));
+        let placed = mixed(a.lowest, a.highest);
+        let told = mixed(mixed(a.number, a.more), placed);
+        s.digest = mixed(mixed(s.digest, a.what), told);
         s
     }
 

@@ -1,4 +1,5 @@
-// The rules' listing of edits, its known point of a split, and reports by position, each call printed with the library's answer.
+// The rules' listing of edits, its known point of a split, reports on a border that is met twice, and reports by position, each call printed
+// with the library's answer.
 use crate::said;
 use crate::say;
 use test_cases::Edit;
@@ -11,9 +12,10 @@ ghost use Rattle.test_rows.specs.Shape.{allRows};
 
 const OUTLINE_NUMBERS: usize = 8;
 
-const CALLS: usize = 24;
+const CALLS: usize = 30;
 
-// The rules' listing; then a split along a path that leaves the square; then reports by position, near a rectangle from 62 to 188 mm:
+// The rules' listing; then a split along a path that leaves the square; then a split along a path that goes out and back, and reports twice
+// on the lower district's ring, once on both rings, and on the higher one's alone; then reports by position, near a rectangle from 62 to 188 mm:
 // 0.0625 m and 0.1875 m are exactly half way between two millimetres, and the first report comes before there is an outline.
 const CALLED: [Edit; CALLS] = [
     Edit::Found,
@@ -51,6 +53,24 @@ const CALLED: [Edit; CALLS] = [
     Edit::Report {
         number: 1,
         sent: Sent::Point(2, 2),
+    },
+    Edit::Found,
+    Edit::Split { d: 0, i: 0, j: 2 },
+    Edit::Report {
+        number: 710,
+        sent: Sent::Point(1, 1),
+    },
+    Edit::Report {
+        number: 711,
+        sent: Sent::Point(2, 1),
+    },
+    Edit::Report {
+        number: 712,
+        sent: Sent::Point(2, 2),
+    },
+    Edit::Report {
+        number: 713,
+        sent: Sent::Point(0, 2),
     },
     Edit::Report {
         number: 800,
@@ -103,7 +123,9 @@ const LISTING: usize = 0;
 
 const OVER_THE_TOP: usize = 8;
 
-const POSITIONS: usize = 12;
+const OUT_AND_BACK: usize = 12;
+
+const POSITIONS: usize = 18;
 
 fn call(k: usize) -> Edit {
     if k < CALLS {
@@ -191,8 +213,10 @@ fn listed(name: &[u8], first: usize, end: usize, points: &[i32]) -> Score {
 pub fn all(start: Score) -> Score {
     let square = [0, 0, 4, 0, 4, 4, 0, 4];
     let with_path = [0, 0, 4, 0, 4, 4, 0, 4, 2, 9];
+    let with_spike = [0, 0, 4, 0, 4, 4, 0, 4, 1, 1, 3, 1, 1, 1];
     let rectangle = [62, 0, 188, 0, 188, 100, 62, 100];
     let one = start.plus(listed(b"listing: ", LISTING, OVER_THE_TOP, &square));
-    let two = one.plus(listed(b"over the top: ", OVER_THE_TOP, POSITIONS, &with_path));
-    two.plus(listed(b"positions: ", POSITIONS, CALLS, &rectangle))
+    let two = one.plus(listed(b"over the top: ", OVER_THE_TOP, OUT_AND_BACK, &with_path));
+    let three = two.plus(listed(b"out and back: ", OUT_AND_BACK, POSITIONS, &with_spike));
+    three.plus(listed(b"positions: ", POSITIONS, CALLS, &rectangle))
 }

@@ -12,7 +12,7 @@ struct Picture {
     m: usize,
 }
 
-const PICTURED: usize = 11;
+const PICTURED: usize = 13;
 
 // The last two are the pieces of the square when it is split from 0 to 1 with path (2,9).
 const PICTURES: [Picture; PICTURED] = [
@@ -45,6 +45,16 @@ const PICTURES: [Picture; PICTURED] = [
         name: *b"there and half way back ",
         corners: [0, 0, 4, 0, 2, 0, 0, 0, 0, 0, 0, 0, 0, 0, 0, 0],
         m: 6,
+    },
+    Picture {
+        name: *b"doubled corner          ",
+        corners: [0, 0, 4, 0, 4, 0, 4, 4, 0, 4, 0, 0, 0, 0, 0, 0],
+        m: 10,
+    },
+    Picture {
+        name: *b"spike                   ",
+        corners: [0, 0, 4, 0, 7, 0, 4, 0, 4, 4, 0, 4, 0, 0, 0, 0],
+        m: 12,
     },
     Picture {
         name: *b"half the grid           ",
@@ -97,7 +107,7 @@ struct Known {
     y: i32,
 }
 
-const KNOWN: usize = 19;
+const KNOWN: usize = 24;
 
 const POINTS: [Known; KNOWN] = [
     Known {
@@ -136,6 +146,16 @@ const POINTS: [Known; KNOWN] = [
         y: 2,
     },
     Known {
+        picture: 2,
+        x: 4,
+        y: 4,
+    },
+    Known {
+        picture: 2,
+        x: 0,
+        y: 2,
+    },
+    Known {
         picture: 3,
         x: 3,
         y: 2,
@@ -167,31 +187,46 @@ const POINTS: [Known; KNOWN] = [
     },
     Known {
         picture: 6,
+        x: 4,
+        y: 0,
+    },
+    Known {
+        picture: 7,
+        x: 6,
+        y: 0,
+    },
+    Known {
+        picture: 7,
+        x: 4,
+        y: 0,
+    },
+    Known {
+        picture: 8,
         x: 1,
         y: 0,
     },
     Known {
-        picture: 6,
+        picture: 8,
         x: 0,
         y: 1,
     },
     Known {
-        picture: 7,
-        x: 2,
-        y: 2,
-    },
-    Known {
-        picture: 8,
-        x: 2,
-        y: 2,
-    },
-    Known {
         picture: 9,
+        x: 2,
+        y: 2,
+    },
+    Known {
+        picture: 10,
+        x: 2,
+        y: 2,
+    },
+    Known {
+        picture: 11,
         x: 2,
         y: 6,
     },
     Known {
-        picture: 10,
+        picture: 12,
         x: 2,
         y: 6,
     },
@@ -264,16 +299,23 @@ pub fn lengths(start: Score) -> Score {
     score
 }
 
-// The longest ring, and one vertex more.
+// The longest ring, which is one place over and over, at that place and beside it; and one vertex more.
 pub fn longest(score: Score) -> Score {
-    let p = Known {
+    let at = Known {
+        picture: 0,
+        x: 0,
+        y: 0,
+    };
+    let beside = Known {
         picture: 0,
         x: 2,
         y: 2,
     };
     let list = [0i32; 4098];
     say::text(b"2048 vertices           ");
-    let one = ask(&list, 4096, p, score);
+    let one = ask(&list, 4096, at, score);
+    say::text(b"2048 vertices           ");
+    let two = ask(&list, 4096, beside, one);
     say::text(b"2049 vertices           ");
-    ask(&list, 4098, p, one)
+    ask(&list, 4098, beside, two)
 }

@@ -1,7 +1,8 @@
 // Puts the same questions to the library and to a second implementation, `test_second` and `test_rows`, and prints what came of them and
 // how many differ: the rules' known points, a line each; made rings, a line for each kind; the rules' listing and other known calls,
-// a line each; and the lives of made registers, a line for each sort. What is made comes from a fixed seed, so that every run prints the
-// same. Proved safe and ending; what it prints is compared.
+// a line each; and the lives of made registers, a line for each sort. Points on a ring are counted by whether they have one place there, as
+// `vertex`, or several, as `vertices`. What is made comes from a fixed seed, so that every run prints the same. Proved safe and ending; what
+// it prints is compared.
 mod edits;
 mod known;
 mod said;

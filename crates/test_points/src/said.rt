@@ -22,6 +22,17 @@ fn off(a: Answer) {
     }
 }
 
+// The lowest index and the highest, after the word for what has them.
+fn indices(word: &[u8], a: Answer) {
+    counted(word, a.lowest);
+    counted(b" ", a.highest);
+}
+
+fn border(word: &[u8], a: Answer) {
+    counted(b"border ", a.number);
+    indices(word, a);
+}
+
 fn several(a: Answer) {
     counted(b"several ", a.number);
     counted(b" ", a.more);
@@ -38,11 +49,12 @@ fn placed(a: Answer) {
 fn told(a: Answer) {
     let what = a.what;
     match what {
-        answer::VERTEX => counted(b"vertex ", a.number),
-        answer::EDGE => counted(b"edge ", a.number),
+        answer::VERTEX | answer::VERTICES => indices(b"vertex ", a),
+        answer::EDGE | answer::EDGES => indices(b"edge ", a),
         answer::FOUNDED => text(b"ok"),
         answer::SPLIT | answer::MERGED => counted(b"ok ", a.number),
-        answer::BORDER => counted(b"border ", a.number),
+        answer::BORDER_VERTEX | answer::BORDER_VERTICES => border(b" vertex ", a),
+        answer::BORDER_EDGE | answer::BORDER_EDGES => border(b" edge ", a),
         answer::ONE => counted(b"one ", a.number),
         answer::NONE => text(b"none"),
         answer::PLACED => placed(a),
@@ -63,25 +75,49 @@ pub fn both(b: Both) {
 }
 
 // What answers are called when they are counted, up to refusals, and how long each name is.
-const NAMES: [[u8; 14]; answer::REFUSED] = [
-    *b", vertex      ",
-    *b", edge        ",
-    *b", off 0:      ",
-    *b", off +-1:    ",
-    *b", off beyond: ",
-    *b", founded     ",
-    *b", splits      ",
-    *b", merges      ",
-    *b", border      ",
-    *b", one         ",
-    *b", none        ",
-    *b", several     ",
-    *b", placed      ",
+const NAMES: [[u8; 18]; answer::REFUSED] = [
+    *b", vertex          ",
+    *b", vertices        ",
+    *b", edge            ",
+    *b", edges           ",
+    *b", off 0:          ",
+    *b", off +-1:        ",
+    *b", off beyond:     ",
+    *b", founded         ",
+    *b", splits          ",
+    *b", merges          ",
+    *b", border vertex   ",
+    *b", border vertices ",
+    *b", border edge     ",
+    *b", border edges    ",
+    *b", one             ",
+    *b", none            ",
+    *b", several         ",
+    *b", placed          ",
 ];
 
-const LENGTHS: [usize; answer::REFUSED] = [9, 7, 9, 11, 14, 10, 9, 9, 9, 6, 7, 10, 9];
+const LENGTHS: [usize; answer::REFUSED] = [
+    9,
+    11,
+    7,
+    8,
+    9,
+    11,
+    14,
+    10,
+    9,
+    9,
+    16,
+    18,
+    14,
+    15,
+    6,
+    7,
+    10,
+    9,
+];
 
-fn named(name: &[u8; 14], m: usize, n: usize) {
+fn named(name: &[u8; 18], m: usize, n: usize) {
     say::first(name, m);
     counted(b"", n);
 }

@@ -71,9 +71,17 @@ pub enum Told {
     Refused(usize),
 }
 
+// Where a point is on a ring: at corners, or else on sides; the lowest index and the highest.
+pub struct Met {
+    pub corner: bool,
+    pub lowest: usize,
+    pub highest: usize,
+}
+
 // Where a report belongs.
 pub enum Belongs {
-    Border(usize),
+    // The lowest district with the point on its ring, and where on that ring.
+    Border(usize, Met),
     One(usize),
     None,
     // The lowest number, and how many.

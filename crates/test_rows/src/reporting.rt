@@ -1,5 +1,6 @@
 // Reports: every row is located by `test_second`, from the highest number down, so that the lowest is seen last.
 use crate::Belongs;
+use crate::Met;
 use crate::NUMBERS;
 use crate::Sent;
 use crate::row;
@@ -10,12 +11,26 @@ ghost use Prim.Native.Nat.{_<_};
 ghost use lib.ListN.{length};
 ghost use Rattle.test_rows.specs.Shape.{allRows};
 
-// The lowest district with the point on its ring, the lowest that the point winds about, NUMBERS for none, and how many there are.
 struct Seen {
+    // The lowest district with the point on its ring, or NUMBERS, and where on that ring.
     border: usize,
+    met: Met,
+    // The lowest district that winds about the point, or NUMBERS, and how many do.
     inside: usize,
     many: usize,
 }
+
+// Before any district is looked at. Without a border `met` stands for nothing.
+const NOTHING_SEEN: Seen = Seen {
+    border: NUMBERS,
+    met: Met {
+        corner: false,
+        lowest: 0,
+        highest: 0,
+    },
+    inside: NUMBERS,
+    many: 0,
+};
 
 // Where (x, y) lies against the ring of district d. An empty row is refused as a ring.
 fn located(rows: &[i32], d: usize, x: i32, y: i32) -> Where
@@ -28,28 +43,44 @@ fn located(rows: &[i32], d: usize, x: i32, y: i32) -> Where
 }
 
 impl Seen {
-    // The count wraps, so that no loop has to carry a bound; it is 64 at most.
-    fn with(mut self, d: usize, place: Where) -> Seen {
-        match place {
-            Where::Corner(_) => self.border = d,
-            Where::Side(_) => self.border = d,
-            Where::Away {
-                times,
-                backwards: _,
-            } => {
-                if 0 < times {
-                    self.inside = d;
-                    self.many = std::num::wrapping_add_usize(self.many, 1);
-                }
-            }
-            Where::Refused(_) => {}
+    // With district d, on whose ring the point was met.
+    fn on(mut self, d: usize, corner: bool, lowest: usize, highest: usize) -> Seen {
+        let met = Met {
+            corner,
+            lowest,
+            highest,
+        };
+        self.border = d;
+        self.met = met;
+        self
+    }
+
+    // With district d, which winds about the point so many times. The count wraps, so that no loop has to carry a bound; it is 64 at most.
+    fn about(mut self, d: usize, times: u32) -> Seen {
+        if 0 < times {
+            self.inside = d;
+            self.many = std::num::wrapping_add_usize(self.many, 1);
         }
         self
     }
 
+    // What is seen of a district takes the place of what was seen of higher ones.
+    fn with(self, d: usize, place: Where) -> Seen {
+        match place {
+            Where::Corner(lowest, highest) => self.on(d, true, lowest, highest),
+            Where::Side(lowest, highest) => self.on(d, false, lowest, highest),
+            Where::Away {
+                times,
+                backwards: _,
+            } => self.about(d, times),
+            Where::Refused(_) => self,
+        }
+    }
+
     fn belongs(self) -> Belongs {
         if self.border < NUMBERS {
-            return Belongs::Border(self.border);
+            let met = self.met;
+            return Belongs::Border(self.border, met);
         }
         if self.many == 0 {
             return Belongs::None;
@@ -64,11 +95,7 @@ impl Seen {
 fn survey(rows: &[i32], x: i32, y: i32) -> Seen
     requires { ⌜ length (now rows) ≡ allRows ⌝ }
 {
-    let mut seen = Seen {
-        border: NUMBERS,
-        inside: NUMBERS,
-        many: 0,
-    };
+    let mut seen = NOTHING_SEEN;
     let mut d = NUMBERS;
     while 0 < d {
         d -= 1;

@@ -31,8 +31,9 @@ const ORIGIN: Spot = Spot {
 const OTHER_ORIGIN: Spot = Spot { x: 0, y: 0 };
 
 pub enum Where {
-    Corner(usize),
-    Side(usize),
+    // The lowest and the highest index of the corners that are the point, or of the sides that hold it.
+    Corner(usize, usize),
+    Side(usize, usize),
     // How many times the ring goes round the point, and whether it does so clockwise.
     Away { times: u32, backwards: bool },
     // 4: no ring; 5: a coordinate beyond the grid.
@@ -45,7 +46,7 @@ struct HalfTurns {
     backward: u32,
 }
 
-// Where (x, y) lies against the ring x0, y0, x1, y1, .. A corner comes before a side, and the lowest index counts.
+// Where (x, y) lies against the ring x0, y0, x1, y1, .. Corners come before sides: where one is the point no side is named.
 pub fn locate(ring: &[i32], x: i32, y: i32) -> Where {
     let n = ring.len() / 2;
     if (ring.len() % 2 == 1) | (n < FEWEST_VERTICES) {
@@ -78,11 +79,11 @@ fn against(ring: &[i32], n: usize, r: Spot) -> Where
 {
     let corner = first_corner(ring, n, r);
     if corner < n {
-        return Where::Corner(corner);
+        return Where::Corner(corner, last_corner(ring, n, r));
     }
     let side = first_side(ring, n, r);
     if side < n {
-        return Where::Side(side);
+        return Where::Side(side, last_side(ring, n, r));
     }
     turns(scores(ring, n, r))
 }
@@ -101,6 +102,20 @@ fn first_corner(ring: &[i32], n: usize, r: Spot) -> usize
     n
 }
 
+// The highest vertex that is r, looked for from the end, or n if none is.
+fn last_corner(ring: &[i32], n: usize, r: Spot) -> usize
+    requires { ⌜ n + n ≤ length (now ring) ⌝ }
+{
+    let mut i = n;
+    while 0 < i {
+        i -= 1;
+        if plane::same(plane::vertex(ring, i), r) {
+            return i;
+        }
+    }
+    n
+}
+
 // The lowest edge that holds r, or n if none does.
 fn first_side(ring: &[i32], n: usize, r: Spot) -> usize
     requires { ⌜ n + n ≤ length (now ring) ⌝ }
@@ -112,6 +127,21 @@ fn first_side(ring: &[i32], n: usize, r: Spot) -> usize
             return i;
         }
         i += 1;
+    }
+    n
+}
+
+// The highest edge that holds r, looked for from the end, or n if none does.
+fn last_side(ring: &[i32], n: usize, r: Spot) -> usize
+    requires { ⌜ n + n ≤ length (now ring) ⌝ }
+    requires { ⌜ Near r ⌝ }
+{
+    let mut i = n;
+    while 0 < i {
+        i -= 1;
+        if plane::on_segment(plane::edge_at(ring, n, i), r) {
+            return i;
+        }
     }
     n
 }

@@ -2,7 +2,7 @@
 //! Winding numbers are counted by the crossing rule, determinants have 128 bits, and every district
 //! is a row of its own; a fix is rounded by its decimals. Refusal 1 is not given here: rows have no
 //! way to be damaged.
-use launchramp::{Class, Place, Position, Refusal, NUMBERS};
+use launchramp::{Class, Place, Position, Refusal, Touch, NUMBERS};
 use std::cmp::Ordering;
 
 const LIMIT: i32 = 1_000_000_000;
@@ -91,11 +91,11 @@ impl Rows {
         refuse_if(self.outline.is_none(), Refusal::NoOutline)?;
         on_grid(&[(x, y)])?;
         let mut holding = Vec::new();
-        for (d, ring) in self.districts.iter().enumerate() {
+        for (district, ring) in self.districts.iter().enumerate() {
             match ring.as_ref().map(|ring| place(ring, (x, y))) {
                 None | Some(Place::Off(0)) => {}
-                Some(Place::Off(_)) => holding.push(d),
-                Some(_) => return Ok(Class::Border(d)),
+                Some(Place::Off(_)) => holding.push(district),
+                Some(Place::On(touch)) => return Ok(Class::Border { district, touch }),
             }
         }
         Ok(match holding[..] {
@@ -203,19 +203,26 @@ fn walk(ring: &[Point], from: usize, count: usize) -> Ring {
         .collect()
 }
 
+/// Every vertex is looked at, and then every edge.
 fn place(ring: &[Point], r: Point) -> Place {
-    if let Some(i) = ring.iter().position(|&p| p == r) {
-        return Place::Vertex(i);
-    }
     let edges = || {
         ring.iter()
             .copied()
             .zip(ring.iter().copied().cycle().skip(1))
     };
-    if let Some(i) = edges().position(|(p, q)| holds(p, q, r)) {
-        return Place::Edge(i);
+    if let Some((lowest, highest)) = met(ring.iter().map(|&p| p == r)) {
+        return Place::On(Touch::Vertex { lowest, highest });
+    }
+    if let Some((lowest, highest)) = met(edges().map(|(p, q)| holds(p, q, r))) {
+        return Place::On(Touch::Edge { lowest, highest });
     }
     Place::Off(edges().map(|(p, q)| crossing(p, q, r)).sum())
+}
+
+/// The lowest and the highest index that has `true`, if any has.
+fn met(each: impl Iterator<Item = bool>) -> Option<(usize, usize)> {
+    let indices: Vec<usize> = each.enumerate().filter(|i| i.1).map(|i| i.0).collect();
+    Some((*indices.first()?, *indices.last()?))
 }
 
 /// Positive where p, q, r turn to the left.

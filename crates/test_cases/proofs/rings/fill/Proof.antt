@@ -7,10 +7,10 @@ use Rattle.test_cases.proofs.rings.fill.Statement.{statement}
 use Rattle.test_cases.proofs.rings.fill.Tie as tie
 
 abbrev Inv-loop : tie.InvT-loop
-Inv-loop list₀ n once spiked what seed₀ i₀ list seed i = length list ≡ length list₀
+Inv-loop list₀ n spiked what seed₀ i₀ list seed i = length list ≡ length list₀
 
 abbrev μ-loop : tie.MeasureT-loop
-μ-loop list₀ n once spiked what seed₀ i₀ list seed i = n - i
+μ-loop list₀ n spiked what seed₀ i₀ list seed i = n - i
 
 loop-holds : tie.Need-loop-holds Inv-loop μ-loop
 loop-holds c = search needs

@@ -8,7 +8,7 @@ abbrev Inv-loop : tie.InvT-loop
 Inv-loop score₀ k₀ score k = 0 ≤ k
 
 abbrev μ-loop : tie.MeasureT-loop
-μ-loop score₀ k₀ score k = 19 - k
+μ-loop score₀ k₀ score k = 24 - k
 
 new-requires : tie.Need-new-requires Inv-loop μ-loop
 new-requires c κs = search needs

@@ -8,7 +8,7 @@ abbrev Inv-loop : tie.InvT-loop
 Inv-loop counts kind₀ kind = 0 ≤ kind
 
 abbrev μ-loop : tie.MeasureT-loop
-μ-loop counts kind₀ kind = 33 - kind
+μ-loop counts kind₀ kind = 38 - kind
 
 loop-holds : tie.Need-loop-holds Inv-loop μ-loop
 loop-holds c = search needs
