@@ -16,13 +16,24 @@ pub struct Arrow {
 // A determinant of two arrows.
 pub struct Det(pub Wide);
 
-// The way from (from_x, from_y) to (to_x, to_y); no two 32-bit coordinates are too far apart for it.
-pub fn between(from_x: i32, from_y: i32, to_x: i32, to_y: i32) -> Arrow
-    ensures { λ r. ⌜ (r .x ≡ «to_x» -ℤ «from_x») × (r .y ≡ «to_y» -ℤ «from_y») ⌝ }
+// The way from (0, 0) to (x, y).
+pub fn way_to(x: i32, y: i32) -> Arrow
+    ensures { λ r. ⌜ (r .x ≡ «x») × (r .y ≡ «y») ⌝ }
 {
     Arrow {
-        x: to_x as Wide - from_x as Wide,
-        y: to_y as Wide - from_y as Wide,
+        x: x as Wide,
+        y: y as Wide,
+    }
+}
+
+// The way to (x, y) from the point that `from` leads to.
+pub fn between(from: Arrow, x: i32, y: i32) -> Arrow
+    requires { ⌜ Short from ⌝ }
+    ensures { λ r. ⌜ (r .x ≡ «x» -ℤ from .x) × (r .y ≡ «y» -ℤ from .y) ⌝ }
+{
+    Arrow {
+        x: x as Wide - from.x,
+        y: y as Wide - from.y,
     }
 }
 

@@ -3,6 +3,8 @@ pub mod Vertices
 pub mod OnGrid
 pub mod Quadrants
 pub mod Search
+pub mod Within
+pub mod Asked
 pub mod Spans
 pub mod Sums
 pub mod Crossings

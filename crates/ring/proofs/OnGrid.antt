@@ -1,23 +1,23 @@
 -- What the test of the coordinates tells: every vertex of a list that passes is a point of the grid; and the way from one such point to another. Assumes nothing.
 use Prim.Native.Nat.{ℕ, zero, suc, _%_, _≤_}
 use native.Mathlib.Omega.{arith}
-use mathlib.Core.Path.{_≡_, refl, _∙_}
+use mathlib.Core.Path.{_≡_, refl, ap, _∙_}
 use mathlib.Core.Bool.{false}
 use mathlib.Core.List.{List, [], _∷_}
 use lib.IntN.{ℤ, pos, negsuc, natAbs, _-ℤ_, _*ℤ_}
 use lib.ListN.{length, getD}
 use mir.Syntax.{w32}
-use mir.Val.{toZ, ofZ}
+use mir.Val.{SFits, toZ, ofZ}
 use mir.Facts.{toZ-ofZ}
 use borrow.Author.Tests.{ltb-false}
 use Rattle.exact.specs.declared.Arrow.{Arrow}
-use Rattle.exact.specs.Sign.{cross}
+use Rattle.exact.specs.Sign.{Short, cross}
 use Rattle.exact.proofs.Bounds.{natAbs-sub, within-fits}
 use Rattle.ring.specs.declared.Point.{Point}
 use Rattle.ring.specs.Grid.{point, beyond, someBeyond, vertices}
 use Rattle.ring.specs.Rings.{at}
 use Rattle.ring.specs.Turns.{determinant}
-use Rattle.ring.specs.Walk.{OnGrid, Way}
+use Rattle.ring.specs.Walk.{headOf, OnGrid, Way}
 use Rattle.ring.proofs.Pick.{neither-left, neither-right}
 use Rattle.ring.proofs.Vertices.{origin}
 
@@ -47,14 +47,21 @@ vertex-on-grid xs e i =
 
 -- ---- the way from one point of the grid to another, as `exact` tells it
 
+-- the way to (x, y) from (0, 0), as `exact` tells it
+pub headed : (x y : ℤ) (a : Arrow) → SFits w32 x → SFits w32 y → (a .x ≡ toZ w32 (ofZ w32 x)) × (a .y ≡ toZ w32 (ofZ w32 y)) → headOf a ≡ point x y
+headed x y a f g e = (λ i. point ((e .0 ∙ toZ-ofZ f) i) ((e .1 ∙ toZ-ofZ g) i))
+
+pub head-short : (a : Arrow) → OnGrid (headOf a) → Short a
+head-short a r = record { across = omega (arith, r .across); up = omega (arith, r .up) }
+
 -- a coordinate as a number of 32 bits holds it
 pub held : (z : ℤ) → natAbs z ≤ 1_000_000_000 → toZ w32 (ofZ w32 z) ≡ z
 held z h = toZ-ofZ (within-fits w32 z 1_000_000_000 h tt)
 
-pub way-between : (R P : Point) (a : Arrow) → OnGrid R → OnGrid P → (a .x ≡ toZ w32 (ofZ w32 (P .x)) -ℤ toZ w32 (ofZ w32 (R .x))) × (a .y ≡ toZ w32 (ofZ w32 (P .y)) -ℤ toZ w32 (ofZ w32 (R .y))) → Way R P a
+pub way-between : (R P : Point) (a : Arrow) → OnGrid R → OnGrid P → (a .x ≡ toZ w32 (ofZ w32 (P .x)) -ℤ R .x) × (a .y ≡ toZ w32 (ofZ w32 (P .y)) -ℤ R .y) → Way R P a
 way-between R P a r p e =
-    let x : a .x ≡ P .x -ℤ R .x = e .0 ∙ (λ i. held (P .x) (p .across) i -ℤ held (R .x) (r .across) i) in
-    let y : a .y ≡ P .y -ℤ R .y = e .1 ∙ (λ i. held (P .y) (p .up) i -ℤ held (R .y) (r .up) i) in
+    let x : a .x ≡ P .x -ℤ R .x = e .0 ∙ ap (λ (z : ℤ). z -ℤ R .x) (held (P .x) (p .across)) in
+    let y : a .y ≡ P .y -ℤ R .y = e .1 ∙ ap (λ (z : ℤ). z -ℤ R .y) (held (P .y) (p .up)) in
     record {
       x = x;
       y = y;

@@ -1,10 +1,10 @@
 -- What the functions that go round a ring ask and promise one another; no public promise cites it. Assumes nothing.
 use Prim.Native.Nat.{ℕ, _+_, _≤_, _<_}
 use mathlib.Core.Path.{_≡_}
-use mathlib.Core.Bool.{Bool, true, false, _&&_}
+use mathlib.Core.Bool.{Bool, true, false, _&&_, _||_}
 use mathlib.Core.List.{List}
 use lib.Dec.{ltb}
-use lib.ListN.{length}
+use lib.ListN.{length, getD}
 use lib.IntN.{ℤ, pos, natAbs, _+ℤ_, _-ℤ_}
 use lib.Signed.{ltZ}
 use Rattle.exact.specs.declared.Arrow.{Arrow}
@@ -14,13 +14,17 @@ use Rattle.ring.specs.declared.counting.End.{End}
 use Rattle.ring.specs.declared.counting.Count.{Count}
 use Rattle.ring.specs.declared.places.Span.{Span}
 use Rattle.ring.specs.declared.places.Met.{Met}
-use Rattle.ring.specs.Grid.{someBeyond, vertices}
+use Rattle.ring.specs.Grid.{point, beyond, someBeyond, vertices}
 use Rattle.ring.specs.Choices.{pick, count}
 use Rattle.ring.specs.Rings.{at, total}
 use Rattle.ring.specs.Turns.{winding}
 use Rattle.ring.specs.Crossings.{crossing, steps}
 use Rattle.ring.specs.Segment.{between}
 use Rattle.ring.specs.Locate.{lowest, highest, atVertex, onEdge}
+
+-- the point that a way from (0, 0) leads to
+abbrev pub headOf : Arrow → Point
+headOf a = point (a .x) (a .y)
 
 -- a point of the grid, by the sizes of its coordinates
 pub record OnGrid (p : Point) : Type 0 where
@@ -40,6 +44,10 @@ pub record Clean (xs : List ℤ) (R : Point) : Type 0 where
   pub most : length (vertices xs) ≤ 2048
   pub grid : someBeyond xs ≡ false
   pub point : OnGrid R
+
+-- one of the four numbers from place i on is beyond the grid
+abbrev pub fourBeyond : List ℤ → ℕ → Bool
+fourBeyond xs i = (beyond (getD xs i (pos 0)) || beyond (getD xs (i + 1) (pos 0))) || (beyond (getD xs (i + 2) (pos 0)) || beyond (getD xs (i + 3) (pos 0)))
 
 -- the way from one point of the grid to another
 pub record Way (R P : Point) (a : Arrow) : Type 0 where

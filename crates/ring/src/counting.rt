@@ -12,9 +12,9 @@ ghost use Rattle.exact.specs.Sign.{eqZ, Short};
 ghost use Rattle.ring.specs.Choices.{pick};
 ghost use Rattle.ring.specs.Grid.{vertices};
 ghost use Rattle.ring.specs.Rings.{at};
-ghost use Rattle.ring.specs.Walk.{Ready, Clean, mostTurns, Marked, Sight, Gone, Counts, Aside, none, Counted};
+ghost use Rattle.ring.specs.Walk.{headOf, Ready, Clean, mostTurns, Marked, Sight, Gone, Counts, Aside, none, Counted};
 
-// As many edges are passed over at a time. A ring of no more vertices is counted edge by edge where it is asked about alone.
+// As many edges are passed over at a time. A ring of no more vertices is short: asked about alone, it is counted edge by edge.
 pub const BLOCK: usize = 16;
 
 // A vertex as seen from r: the way to it, and 1 where it lies below r's row, otherwise 0.
@@ -43,10 +43,10 @@ fn marked(way: exact::Arrow) -> End
 }
 
 // Vertex i as seen from r.
-fn seen(ring: &[i32], r: Point, i: usize) -> End
-    requires { ⌜ Clean (now ring) r ⌝ }
+fn seen(ring: &[i32], r: exact::Arrow, i: usize) -> End
+    requires { ⌜ Clean (now ring) (headOf r) ⌝ }
     requires { ⌜ i < length (vertices (now ring)) ⌝ }
-    ensures { λ e. ⌜ Sight r (at (vertices (now (ring .entry))) i) e ⌝ }
+    ensures { λ e. ⌜ Sight (headOf r) (at (vertices (now (ring .entry))) i) e ⌝ }
 {
     marked(grid::way(ring, r, i))
 }
@@ -111,9 +111,9 @@ impl Count {
 }
 
 // The count of the closing edge.
-fn closing(ring: &[i32], n: usize, r: Point) -> Count
-    requires { ⌜ Ready (now ring) n r ⌝ }
-    ensures { λ c. ⌜ Counts (vertices (now (ring .entry))) r (n - 1) 1 none c ⌝ }
+fn closing(ring: &[i32], n: usize, r: exact::Arrow) -> Count
+    requires { ⌜ Ready (now ring) n (headOf r) ⌝ }
+    ensures { λ c. ⌜ Counts (vertices (now (ring .entry))) (headOf r) (n - 1) 1 none c ⌝ }
 {
     let nothing = Count { turns: 0, clear: 1 };
     let last = n - 1;
@@ -121,11 +121,11 @@ fn closing(ring: &[i32], n: usize, r: Point) -> Count
 }
 
 // On from c along the k edges from vertex i.
-fn stretch(ring: &[i32], r: Point, i: usize, k: usize, c: Count) -> Count
-    requires { ⌜ Clean (now ring) r ⌝ }
+fn stretch(ring: &[i32], r: exact::Arrow, i: usize, k: usize, c: Count) -> Count
+    requires { ⌜ Clean (now ring) (headOf r) ⌝ }
     requires { ⌜ i + k < length (vertices (now ring)) ⌝ }
     requires { ⌜ natAbs (c .turns) + k ≤ mostTurns ⌝ }
-    ensures { λ v. ⌜ Counts (vertices (now (ring .entry))) r i k c v ⌝ }
+    ensures { λ v. ⌜ Counts (vertices (now (ring .entry))) (headOf r) i k c v ⌝ }
 {
     let mut count = c;
     let mut from = seen(ring, r, i);
@@ -169,10 +169,11 @@ fn block(ring: &[i32], r: Point, i: usize, k: usize, c: Count) -> Count
     requires { ⌜ natAbs (c .turns) + k ≤ mostTurns ⌝ }
     ensures { λ v. ⌜ Counts (vertices (now (ring .entry))) r i k c v ⌝ }
 {
+    let w = grid::wide(r);
     if missed(ring, r, i, k) {
-        return c.past(seen(ring, r, i), seen(ring, r, i + k));
+        return c.past(seen(ring, w, i), seen(ring, w, i + k));
     }
-    stretch(ring, r, i, k, c)
+    stretch(ring, w, i, k, c)
 }
 
 // How many edges the block from vertex i has, of those that lead to vertex n - 1.
@@ -184,12 +185,22 @@ fn block_size(i: usize, n: usize) -> usize
     if BLOCK < left { BLOCK } else { left }
 }
 
-// All edges of a ring, one after the other.
-pub fn each(ring: &[i32], n: usize, r: Point) -> Count
-    requires { ⌜ Ready (now ring) n r ⌝ }
-    ensures { λ c. ⌜ Counted (vertices (now (ring .entry))) r c ⌝ }
+// All edges of a ring, one after the other. k is the place of a vertex in the list: to count vertices up to n the compiler would need one register more
+// than the machine has.
+pub fn each(ring: &[i32], n: usize, r: exact::Arrow) -> Count
+    requires { ⌜ Ready (now ring) n (headOf r) ⌝ }
+    ensures { λ c. ⌜ Counted (vertices (now (ring .entry))) (headOf r) c ⌝ }
 {
-    stretch(ring, r, 0, n - 1, closing(ring, n, r))
+    let mut count = closing(ring, n, r);
+    let mut from = seen(ring, r, 0);
+    let mut k = 2;
+    while k < ring.len() {
+        let to = seen(ring, r, k / 2);
+        count = count.along(from, to);
+        from = to;
+        k += 2;
+    }
+    count
 }
 
 // All edges of a ring, by blocks.
@@ -197,7 +208,7 @@ pub fn blocks(ring: &[i32], n: usize, r: Point) -> Count
     requires { ⌜ Ready (now ring) n r ⌝ }
     ensures { λ c. ⌜ Counted (vertices (now (ring .entry))) r c ⌝ }
 {
-    let mut count = closing(ring, n, r);
+    let mut count = closing(ring, n, grid::wide(r));
     let mut i = 0;
     while i + 1 < n {
         let k = block_size(i, n);

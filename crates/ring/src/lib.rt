@@ -21,6 +21,11 @@ pub const FEWEST_VERTICES: usize = 3;
 
 pub const MOST_VERTICES: usize = 2048;
 
+// How many numbers a short ring's list has, and one more: the way for short rings refuses lists of odd length itself.
+const LEAST_SHORT: usize = 2 * FEWEST_VERTICES;
+
+const MOST_SHORT: usize = 2 * counting::BLOCK + 1;
+
 // A point of the grid, in whole millimetres.
 pub struct Point {
     pub x: i32,
@@ -56,7 +61,31 @@ pub fn no_ring(m: usize) -> bool
 
 // Where the point (x, y) lies against the ring x0, y0, x1, y1, .. Vertices come before edges, the lowest and the highest index are told, and the
 // closing edge has the last index. A list that makes no ring is refused before a coordinate beyond the grid.
+// A short ring is dealt with here, edge by edge: in a function of its own its answer would be looked into twice, and the way to the point, if it were kept
+// for `find`, would be written to memory in every call.
 pub fn locate(ring: &[i32], x: i32, y: i32) -> Located
+    ensures { λ r. ⌜ placeOf r ≡ located (now (ring .entry)) x y ⌝ }
+{
+    let m = ring.len();
+    if (m < LEAST_SHORT) | (MOST_SHORT < m) {
+        return locate_long(&ring[0..m], x, y);
+    }
+    if m % 2 == 1 {
+        return Located::Refused(Refusal::NoRing);
+    }
+    if grid::some_beyond_short(ring) | (beyond(x) | beyond(y)) {
+        return Located::Refused(Refusal::BeyondGrid);
+    }
+    let n = m / 2;
+    let c = counting::each(ring, n, exact::way_to(x, y));
+    if c.clear == 0 {
+        return walk::found(places::find(&ring[0..m], n, exact::way_to(x, y)), n, c);
+    }
+    walk::off(c)
+}
+
+// The same where the list is not that of a short ring.
+fn locate_long(ring: &[i32], x: i32, y: i32) -> Located
     ensures { λ r. ⌜ placeOf r ≡ located (now (ring .entry)) x y ⌝ }
 {
     let m = ring.len();
@@ -66,10 +95,5 @@ pub fn locate(ring: &[i32], x: i32, y: i32) -> Located
     if some_beyond(ring) | (beyond(x) | beyond(y)) {
         return Located::Refused(Refusal::BeyondGrid);
     }
-    let n = m / 2;
-    let r = Point { x, y };
-    if n <= counting::BLOCK {
-        return walk::locate_on_short(ring, n, r);
-    }
-    locate_on(ring, n, r)
+    locate_on(ring, m / 2, Point { x, y })
 }

@@ -10,7 +10,7 @@ ghost use Rattle.ring.specs.Choices.{pick};
 ghost use Rattle.ring.specs.Grid.{vertices};
 ghost use Rattle.ring.specs.Segment.{between as isBetween};
 ghost use Rattle.ring.specs.Locate.{lowest, highest, atVertex, onEdge};
-ghost use Rattle.ring.specs.Walk.{Ready, span, metAt, inLine};
+ghost use Rattle.ring.specs.Walk.{headOf, Ready, span, metAt, inLine};
 
 // The lowest and the highest of some indices; where there are none, the number of vertices and 0.
 pub struct Span {
@@ -67,9 +67,9 @@ impl Span {
 }
 
 // All edges that hold r.
-fn edges(ring: &[i32], n: usize, r: Point) -> Span
-    requires { ⌜ Ready (now ring) n r ⌝ }
-    ensures { λ s. ⌜ s ≡ span (onEdge (vertices (now (ring .entry))) r) n ⌝ }
+fn edges(ring: &[i32], n: usize, r: exact::Arrow) -> Span
+    requires { ⌜ Ready (now ring) n (headOf r) ⌝ }
+    ensures { λ s. ⌜ s ≡ span (onEdge (vertices (now (ring .entry))) (headOf r)) n ⌝ }
 {
     let mut met = Span {
         lowest: n,
@@ -116,15 +116,16 @@ fn highest_vertex(ring: &[i32], n: usize, r: Point) -> usize
 }
 
 // Where r is met. Vertices are looked for from both ends, which is quick; edges in one walk.
-pub fn find(ring: &[i32], n: usize, r: Point) -> Met
-    requires { ⌜ Ready (now ring) n r ⌝ }
-    ensures { λ m. ⌜ m ≡ metAt (vertices (now (ring .entry))) r n ⌝ }
+pub fn find(ring: &[i32], n: usize, r: exact::Arrow) -> Met
+    requires { ⌜ Ready (now ring) n (headOf r) ⌝ }
+    ensures { λ m. ⌜ m ≡ metAt (vertices (now (ring .entry))) (headOf r) n ⌝ }
 {
-    let lowest = lowest_vertex(ring, n, r);
+    let p = grid::narrow(r);
+    let lowest = lowest_vertex(ring, n, p);
     if lowest < n {
         let at = Span {
             lowest,
-            highest: highest_vertex(ring, n, r),
+            highest: highest_vertex(ring, n, p),
         };
         return Met { vertex: true, at };
     }

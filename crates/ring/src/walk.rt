@@ -7,6 +7,7 @@ use crate::Touch;
 use crate::Winding;
 use crate::counting;
 use crate::counting::Count;
+use crate::grid;
 use crate::places;
 use crate::places::Met;
 ghost use mathlib.Core.Path.{_≡_};
@@ -31,7 +32,7 @@ fn parity(w: Winding) -> Parity
 }
 
 // Off the ring, with what was counted.
-fn off(c: Count) -> Located
+pub fn off(c: Count) -> Located
     requires { ⌜ natAbs (c .turns) ≤ mostTurns ⌝ }
     ensures { λ l. ⌜ placeOf l ≡ offBy (c .turns) (oddly (c .turns)) ⌝ }
 {
@@ -40,7 +41,7 @@ fn off(c: Count) -> Located
 }
 
 // On a ring of n vertices where r was met, or else off it with the count c.
-fn found(met: Met, n: usize, c: Count) -> Located
+pub fn found(met: Met, n: usize, c: Count) -> Located
     requires { ⌜ natAbs (c .turns) ≤ mostTurns ⌝ }
     ensures { λ l. ⌜ placeOf l ≡ pick (ltb (met .at .lowest) n) (on (pick (met .vertex) vertex edge (met .at .lowest) (met .at .highest))) (offBy (c .turns) (oddly (c .turns))) ⌝ }
 {
@@ -54,28 +55,15 @@ fn found(met: Met, n: usize, c: Count) -> Located
     Located::On(Touch::Edge(at.lowest, at.highest))
 }
 
-// Where r lies against a ring of n vertices, counted edge by edge: the shorter way where n is small. Its last lines are those of `locate_on`:
-// as a function they would be a call, with the count in memory. `find` is handed a part of the list that is all of it: the list as it came would be
-// copied at the start of every call, found or not.
-pub fn locate_on_short(ring: &[i32], n: usize, r: Point) -> Located
-    requires { ⌜ Ready (now ring) n r ⌝ }
-    ensures { λ l. ⌜ placeOf l ≡ locatedOn (vertices (now (ring .entry))) r ⌝ }
-{
-    let c = counting::each(ring, n, r);
-    if c.clear == 0 {
-        return found(places::find(&ring[0..2 * n], n, r), n, c);
-    }
-    off(c)
-}
-
-// Where r lies against a ring of n vertices; that both are on the grid is for the caller to know.
+// Where r lies against a ring of n vertices; that both are on the grid is for the caller to know. `find` is handed a part of the list that is all of
+// it: the list as it came would be copied at the start of every call, found or not.
 pub fn locate_on(ring: &[i32], n: usize, r: Point) -> Located
     requires { ⌜ Ready (now ring) n r ⌝ }
     ensures { λ l. ⌜ placeOf l ≡ locatedOn (vertices (now (ring .entry))) r ⌝ }
 {
     let c = counting::blocks(ring, n, r);
     if c.clear == 0 {
-        return found(places::find(&ring[0..2 * n], n, r), n, c);
+        return found(places::find(&ring[0..2 * n], n, grid::wide(r)), n, c);
     }
     off(c)
 }

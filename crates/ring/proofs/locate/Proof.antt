@@ -1,32 +1,70 @@
--- `ring::locate` refuses in the rules' order and otherwise answers what the walk round the ring finds. Assumes nothing.
-use Prim.Native.Nat.{_/_, _%_}
+-- `ring::locate` refuses a short ring in the rules' order and otherwise answers what counting its edges tells; where some determinant was 0 it looks for places. Assumes nothing.
+use Prim.Native.Nat.{_-_, _/_, _%_, _≤_}
 use native.Mathlib.Omega.{arith}
-use mathlib.Core.Path.{_≡_, sym, ap, _∙_}
-use mathlib.Core.Bool.{false, _||_}
-use lib.Dec.{eqb, ltb}
-use lib.ListN.{length}
-use mir.Syntax.{w32}
-use mir.Val.{toZ, ofZ}
+use mathlib.Core.Path.{_≡_, sym, ap, subst, _∙_}
+use mathlib.Core.Bool.{Bool, false, _||_}
+use mathlib.Core.List.{List}
+use lib.Dec.{ltb}
+use lib.IntN.{ℤ}
+use lib.ListN.{length, take}
+use lib.Seq.{take-all}
 use mir.Facts.{toZ-ofZ}
 use borrow.Author.Needs.{needs}
-use borrow.Author.Tests.{eqb-false, ltb-false}
-use Rattle.ring.specs.Grid.{point, vertices, beyond, someBeyond, noRing}
+use borrow.Author.Tests.{ltb-false, eq-eqb, ne-eqb, le-ltb}
+use Rattle.ring.specs.declared.Point.{Point}
+use Rattle.ring.specs.Grid.{point, vertices, beyond}
 use Rattle.ring.specs.Locate.{located, locatedOn}
-use Rattle.ring.specs.Walk.{Ready}
-use Rattle.ring.proofs.Pick.{pick-true, pick-false, neither-left, neither-right}
-use Rattle.ring.proofs.OnGrid.{point-on-grid}
+use Rattle.ring.specs.Walk.{headOf, Ready, Counted, metAt}
+use Rattle.ring.proofs.Pick.{neither-left, neither-right}
+use Rattle.ring.proofs.Vertices.{length-vertices}
+use Rattle.ring.proofs.OnGrid.{headed}
+use Rattle.ring.proofs.Settled.{clear-off, settled}
+use Rattle.ring.proofs.Asked.{noRingOf, beyondOf, located-no-ring, located-beyond, located-on, asked-ready}
 use Rattle.ring.proofs.locate.Statement.{statement}
 use Rattle.ring.proofs.locate.Tie as tie
 
-no-ring-requires : tie.Need-no-ring-requires
-no-ring-requires c κs = search needs
+-- the part of a list that is all of it
+whole : (xs : List ℤ) → take (length xs - 0) xs ≡ xs
+whole xs = take-all (length xs - 0) xs (omega arith)
+
+sub-locate-long : tie.Need-sub-locate-long
+sub-locate-long c = search needs
+
+part-locate-long-start : tie.Need-part-locate-long-start
+part-locate-long-start c = search needs
+
+part-locate-long-end : tie.Need-part-locate-long-end
+part-locate-long-end c = search needs
+
+locate-long-requires : tie.Need-locate-long-requires
+locate-long-requires c κs = search needs
 
 returns : tie.Need-returns
-unfolding located
-returns c = sym (pick-true (sym (c .before .no-ring .ensures) ∙ c .if1 .taken) _ _)
+returns c =
+    let start = c .before .before .before in
+    c .locate-long .ensures ∙ (λ i. located (whole (start .args .ring .now) i) (toZ-ofZ (start .fits .x) i) (toZ-ofZ (start .fits .y) i))
 
-some-beyond-requires : tie.Need-some-beyond-requires
-some-beyond-requires c κs = search needs
+-- the list has as many numbers as a short ring
+few : (c : tie.Else1) → (6 ≤ length (c .before .args .ring .now)) × (length (c .before .args .ring .now) ≤ 33)
+few c =
+    let m = length (c .before .args .ring .now) in
+    (ltb-false m 6 (neither-left (ltb m 6) _ (c .if1 .left)), ltb-false 33 m (neither-right (ltb m 6) _ (c .if1 .left)))
+
+returns-2 : tie.Need-returns-2
+returns-2 c =
+    let start = c .before .before in
+    let m = length (start .args .ring .now) in
+    located-no-ring (start .args .ring .now) (start .args .x) (start .args .y) (ap (λ (b : Bool). b || (ltb (m / 2) 3 || ltb 2048 (m / 2))) (eq-eqb (m % 2) 1 (omega (arith, c .if2 .taken))))
+
+-- the list makes a ring
+a-ring : (c : tie.Else2) → noRingOf (c .before .before .args .ring .now) (c .before .before .args .x) (c .before .before .args .y) ≡ false
+a-ring c =
+    let m = length (c .before .before .args .ring .now) in
+    let (least, most) = few (c .before) in
+    (λ i. ne-eqb (m % 2) 1 (λ e. omega (arith, c .if2 .left)) i || (le-ltb (m / 2) 3 (omega arith) i || le-ltb 2048 (m / 2) (omega arith) i))
+
+some-beyond-short-requires : tie.Need-some-beyond-short-requires
+some-beyond-short-requires c κs = omega (arith, few (c .before) .0)
 
 beyond-requires : tie.Need-beyond-requires
 beyond-requires c κs = search needs
@@ -34,76 +72,126 @@ beyond-requires c κs = search needs
 beyond-requires-2 : tie.Need-beyond-requires-2
 beyond-requires-2 c κs = search needs
 
--- the first test is the rules'
-a-ring : (c : tie.Else1) → noRing (length (c .before .before .args .ring .now)) (length (c .before .before .args .ring .now) / 2) ≡ false
-a-ring c = sym (c .before .no-ring .ensures) ∙ c .if1 .left
-
--- and so is the second
-tested : (c : tie.After-beyond2) → (someBeyond (c .before .before .before .before .before .args .ring .now) || (beyond (c .before .before .before .before .before .args .x) || beyond (c .before .before .before .before .before .args .y))) ≡ (c .before .before .some-beyond .result || (c .before .beyond .result || c .beyond2 .result))
+-- the third test is the rules'
+tested : (c : tie.After-beyond2) → let start = c .before .before .before .before .before in beyondOf (start .args .ring .now) (start .args .x) (start .args .y) ≡ (c .before .before .some-beyond-short .result || (c .before .beyond .result || c .beyond2 .result))
 tested c =
     let start = c .before .before .before .before .before in
     let x = c .before .beyond .ensures ∙ ap beyond (toZ-ofZ (start .fits .x)) in
     let y = c .beyond2 .ensures ∙ ap beyond (toZ-ofZ (start .fits .y)) in
-    sym (λ i. c .before .before .some-beyond .ensures i || (x i || y i))
-
-returns-2 : tie.Need-returns-2
-unfolding located
-returns-2 c =
-    let second = c .before in
-    sym (pick-false (a-ring (second .before .before .before)) _ _ ∙ pick-true (tested second ∙ c .if2 .taken) _ _)
-
--- what is left is a ring and a point of the grid
-ready : (c : tie.Else2) → let start = c .before .before .before .before .before .before in Ready (start .args .ring .now) (length (start .args .ring .now) / 2) (point (toZ w32 (ofZ w32 (start .args .x))) (toZ w32 (ofZ w32 (start .args .y))))
-ready c =
-    let start = c .before .before .before .before .before .before in
-    let xs = start .args .ring .now in
-    let m = length xs in
-    let a = a-ring (c .before .before .before .before) in
-    let b = tested (c .before) ∙ c .if2 .left in
-    let p = neither-right (someBeyond xs) _ b in
-    let odd = eqb-false (m % 2) 1 (neither-left (eqb (m % 2) 1) _ a) in
-    let sized = neither-right (eqb (m % 2) 1) _ a in
-    let few = ltb-false (m / 2) 3 (neither-left (ltb (m / 2) 3) _ sized) in
-    let many = ltb-false 2048 (m / 2) (neither-right (ltb (m / 2) 3) _ sized) in
-    simp (toZ-ofZ (start .fits .x), toZ-ofZ (start .fits .y)) (record {
-      even = omega arith;
-      least = few;
-      most = many;
-      grid = neither-left (someBeyond xs) _ b;
-      point = point-on-grid (start .args .x) (start .args .y) (neither-left (beyond (start .args .x)) _ p) (neither-right (beyond (start .args .x)) _ p);
-    })
-
--- and where the point lies is the answer
-accepted : (c : tie.Else2) → let start = c .before .before .before .before .before .before in locatedOn (vertices (start .args .ring .now)) (point (toZ w32 (ofZ w32 (start .args .x))) (toZ w32 (ofZ w32 (start .args .y)))) ≡ located (start .args .ring .now) (start .args .x) (start .args .y)
-unfolding located
-accepted c =
-    let start = c .before .before .before .before .before .before in
-    (λ i. locatedOn (vertices (start .args .ring .now)) (point (toZ-ofZ (start .fits .x) i) (toZ-ofZ (start .fits .y) i)))
-    ∙ sym (pick-false (a-ring (c .before .before .before .before)) _ _ ∙ pick-false (tested (c .before) ∙ c .if2 .left) _ _)
-
-locate-on-short-requires : tie.Need-locate-on-short-requires
-locate-on-short-requires c κs = ready (c .before)
+    sym (λ i. c .before .before .some-beyond-short .ensures i || (x i || y i))
 
 returns-3 : tie.Need-returns-3
-returns-3 c = c .locate-on-short .ensures ∙ accepted (c .before .before)
+returns-3 c =
+    let second = c .before .before .before .before in
+    let start = second .before .before in
+    located-beyond (start .args .ring .now) (start .args .x) (start .args .y) (a-ring second) (tested (c .before) ∙ c .if3 .taken)
 
-locate-on-requires : tie.Need-locate-on-requires
-locate-on-requires c κs = ready (c .before)
+-- what is left is a ring and a point of the grid
+ready : (c : tie.Else3) → let start = c .before .before .before .before .before .before in Ready (start .args .ring .now) (length (start .args .ring .now) / 2) (point (start .args .x) (start .args .y))
+ready c =
+    let second = c .before .before .before .before in
+    let start = second .before .before in
+    asked-ready (start .args .ring .now) (start .args .x) (start .args .y) (a-ring second) (tested (c .before) ∙ c .if3 .left)
+
+-- and where the point lies is the answer
+accepted : (c : tie.Else3) → let start = c .before .before .before .before .before .before in locatedOn (vertices (start .args .ring .now)) (point (start .args .x) (start .args .y)) ≡ located (start .args .ring .now) (start .args .x) (start .args .y)
+accepted c =
+    let second = c .before .before .before .before in
+    let start = second .before .before in
+    located-on (start .args .ring .now) (start .args .x) (start .args .y) (a-ring second) (tested (c .before) ∙ c .if3 .left)
+
+way-to-requires : tie.Need-way-to-requires
+way-to-requires c κs = search needs
+
+-- the wide point
+there : (c : tie.After-way-to) → let start = c .before .before .before .before .before .before .before in headOf (c .way-to .result) ≡ point (start .args .x) (start .args .y)
+there c =
+    let start = c .before .before .before .before .before .before .before in
+    headed (start .args .x) (start .args .y) (c .way-to .result) (start .fits .x) (start .fits .y) (c .way-to .ensures)
+
+each-requires : tie.Need-each-requires
+each-requires c κs =
+    let xs = c .before .before .before .before .before .before .before .args .ring .now in
+    subst (Ready xs (length xs / 2)) (sym (there c)) (ready (c .before))
+
+-- the count is that of the point
+counted : (c : tie.After-each) → let start = c .before .before .before .before .before .before .before .before in Counted (vertices (start .args .ring .now)) (point (start .args .x) (start .args .y)) (c .each .result)
+counted c =
+    let start = c .before .before .before .before .before .before .before .before in
+    subst (λ (R : Point). Counted (vertices (start .args .ring .now)) R (c .each .result)) (there (c .before)) (c .each .ensures)
+
+sub-find : tie.Need-sub-find
+sub-find c = search needs
+
+part-find-start : tie.Need-part-find-start
+part-find-start c = search needs
+
+part-find-end : tie.Need-part-find-end
+part-find-end c = search needs
+
+way-to-requires-2 : tie.Need-way-to-requires-2
+way-to-requires-2 c κs = search needs
+
+-- the same point again
+again : (c : tie.After-way-to2) → let start = c .before .before .before .before .before .before .before .before .before .before .before .before in headOf (c .way-to2 .result) ≡ point (start .args .x) (start .args .y)
+again c =
+    let start = c .before .before .before .before .before .before .before .before .before .before .before .before in
+    headed (start .args .x) (start .args .y) (c .way-to2 .result) (start .fits .x) (start .fits .y) (c .way-to2 .ensures)
+
+find-requires : tie.Need-find-requires
+find-requires c κs =
+    let passed = c .before .before .before .before .before .before in
+    let start = passed .before .before .before .before .before .before in
+    let xs = start .args .ring .now in
+    subst (λ ys. Ready ys (length xs / 2) (headOf (c .way-to2 .result))) (sym (whole xs)) (subst (Ready xs (length xs / 2)) (sym (again c)) (ready passed))
+
+found-requires : tie.Need-found-requires
+found-requires c κs = search needs
 
 returns-4 : tie.Need-returns-4
-returns-4 c = c .locate-on .ensures ∙ accepted (c .before .before)
+returns-4 c =
+    let widened = c .before .before in
+    let count = widened .before .before .before .before in
+    let passed = count .before .before in
+    let start = passed .before .before .before .before .before .before in
+    let xs = start .args .ring .now in
+    let n = length xs / 2 in
+    let R = point (start .args .x) (start .args .y) in
+    let met : c .before .find .result ≡ metAt (vertices xs) R n = c .before .find .ensures ∙ (λ i. metAt (vertices (whole xs i)) (again widened i) n) in
+    c .found .ensures ∙ settled (vertices xs) R (count .each .result) (counted count) n (c .before .find .result) (length-vertices xs n (ready passed .even)) met ∙ accepted passed
+
+off-requires : tie.Need-off-requires
+off-requires c κs = search needs
+
+returns-5 : tie.Need-returns-5
+returns-5 c =
+    let count = c .before .before .before in
+    let passed = count .before .before in
+    let start = passed .before .before .before .before .before .before in
+    c .off .ensures ∙ clear-off (vertices (start .args .ring .now)) (point (start .args .x) (start .args .y)) (count .each .result) (counted count) (omega (arith, c .before .if4 .left)) ∙ accepted passed
 
 pub locate-spec : {M : Type 1} → statement M
 locate-spec =
     tie.close
     (tie.spec
-    no-ring-requires
+    sub-locate-long
+    part-locate-long-start
+    part-locate-long-end
+    locate-long-requires
     returns
-    some-beyond-requires
+    returns-2
+    some-beyond-short-requires
     beyond-requires
     beyond-requires-2
-    returns-2
-    locate-on-short-requires
     returns-3
-    locate-on-requires
-    returns-4)
+    way-to-requires
+    each-requires
+    sub-find
+    part-find-start
+    part-find-end
+    way-to-requires-2
+    find-requires
+    found-requires
+    returns-4
+    off-requires
+    returns-5)

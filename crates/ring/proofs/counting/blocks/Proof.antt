@@ -5,8 +5,9 @@ use native.Mathlib.Nat.{zero-add}
 use mathlib.Core.Path.{_≡_, sym, subst}
 use lib.ListN.{length}
 use borrow.Author.Needs.{needs}
+use Rattle.ring.specs.declared.Point.{Point}
 use Rattle.ring.specs.Grid.{vertices}
-use Rattle.ring.specs.Walk.{Counts}
+use Rattle.ring.specs.Walk.{Ready, Counts, none}
 use Rattle.ring.proofs.Vertices.{length-vertices}
 use Rattle.ring.proofs.Walks.{ready-clean, counts-none, counts-on, counts-all}
 use Rattle.ring.proofs.counting.blocks.Statement.{statement}
@@ -21,24 +22,27 @@ abbrev μ-loop : tie.MeasureT-loop
 size : (c : tie.Start Inv-loop μ-loop) → length (vertices (c .args .ring .now)) ≡ c .args .n
 size c = length-vertices (c .args .ring .now) (c .args .n) (c .pre .even)
 
+wide-requires : tie.Need-wide-requires Inv-loop μ-loop
+wide-requires c κs = search needs
+
 closing-requires : tie.Need-closing-requires Inv-loop μ-loop
-closing-requires c κs = search needs
+closing-requires c κs = let start = c .before in subst (Ready (start .args .ring .now) (start .args .n)) (sym (c .wide .ensures)) (start .pre)
 
 loop-holds : tie.Need-loop-holds Inv-loop μ-loop
 loop-holds c =
-    let start = c .before in
+    let start = c .before .before in
     (omega (arith, start .pre .least), counts-none (vertices (start .args .ring .now)) (start .args .r) 0 (c .closing .result))
 
 add-loop : tie.Need-add-loop Inv-loop μ-loop
-add-loop c = omega (arith, c .loop .inv .0, c .before .before .pre .most)
+add-loop c = omega (arith, c .loop .inv .0, c .before .before .before .pre .most)
 
 block-size-requires : tie.Need-block-size-requires Inv-loop μ-loop
-block-size-requires c κs = (c .loop-test .taken, c .before .before .before .pre .most)
+block-size-requires c κs = (c .loop-test .taken, c .before .before .before .before .pre .most)
 
 block-requires : tie.Need-block-requires Inv-loop μ-loop
 block-requires c κs =
     let turn = c .before .before in
-    let start = turn .before .before in
+    let start = turn .before .before .before in
     let ready = start .pre in
     let block = c .block-size .ensures in (
       ready-clean (start .args .ring .now) (start .args .n) (start .args .r) ready,
@@ -46,7 +50,7 @@ block-requires c κs =
     )
 
 add-i : tie.Need-add-i Inv-loop μ-loop
-add-i c = omega (arith, c .before .block-size .ensures .1, c .before .before .before .before .before .pre .most)
+add-i c = omega (arith, c .before .block-size .ensures .1, c .before .before .before .before .before .before .pre .most)
 
 loop-less : tie.Need-loop-less Inv-loop μ-loop
 loop-less c = omega (arith, c .before .block-size .ensures .0, c .before .block-size .ensures .1)
@@ -55,7 +59,8 @@ loop-again : tie.Need-loop-again Inv-loop μ-loop
 loop-again c =
     let turn = c .before .before .before in
     let first = turn .before in
-    let start = first .before in
+    let widened = first .before in
+    let start = widened .before in
     let P = vertices (start .args .ring .now) in
     let k = c .before .block-size .result in (
       c .before .block-size .ensures .1,
@@ -67,10 +72,11 @@ returns : tie.Need-returns Inv-loop μ-loop
 returns c =
     let turn = c .before in
     let first = turn .before in
-    let start = first .before in
+    let widened = first .before in
+    let start = widened .before in
     let P = vertices (start .args .ring .now) in
     let (less, counts) = turn .loop .inv in
-    counts-all P (start .args .r) (start .args .n) (first .closing .result) (turn .loop .count) (size start) (omega (arith, start .pre .least)) (start .pre .most) (first .closing .ensures)
+    counts-all P (start .args .r) (start .args .n) (first .closing .result) (turn .loop .count) (size start) (omega (arith, start .pre .least)) (start .pre .most) (subst (λ (R : Point). Counts P R (start .args .n - 1) 1 none (first .closing .result)) (widened .wide .ensures) (first .closing .ensures))
     (subst (λ k. Counts P (start .args .r) 0 k (first .closing .result) (turn .loop .count)) (omega (arith, less, c .loop-test .left)) counts)
 
 pub blocks-spec : {M : Type 1} → statement M
@@ -79,6 +85,7 @@ blocks-spec =
     (tie.spec
     Inv-loop
     μ-loop
+    wide-requires
     closing-requires
     loop-holds
     add-loop

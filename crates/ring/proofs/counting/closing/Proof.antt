@@ -6,7 +6,7 @@ use lib.ListN.{length}
 use borrow.Author.Needs.{needs}
 use Rattle.ring.specs.Grid.{vertices}
 use Rattle.ring.specs.Rings.{at}
-use Rattle.ring.specs.Walk.{Sight, none}
+use Rattle.ring.specs.Walk.{headOf, Sight, none}
 use Rattle.ring.proofs.Vertices.{at-end, length-vertices}
 use Rattle.ring.proofs.Walks.{ready-clean, counts-edge}
 use Rattle.ring.proofs.counting.closing.Statement.{statement}
@@ -19,12 +19,12 @@ sub-last : tie.Need-sub-last
 sub-last c = search needs
 
 seen-requires : tie.Need-seen-requires
-seen-requires c κs = (ready-clean (c .args .ring .now) (c .args .n) (c .args .r) (c .pre), omega (arith, size c, c .pre .least))
+seen-requires c κs = (ready-clean (c .args .ring .now) (c .args .n) (headOf (c .args .r)) (c .pre), omega (arith, size c, c .pre .least))
 
 seen-requires-2 : tie.Need-seen-requires-2
 seen-requires-2 c κs =
     let start = c .before in
-    (ready-clean (start .args .ring .now) (start .args .n) (start .args .r) (start .pre), omega (arith, size start, start .pre .least))
+    (ready-clean (start .args .ring .now) (start .args .n) (headOf (start .args .r)) (start .pre), omega (arith, size start, start .pre .least))
 
 along-requires : tie.Need-along-requires
 along-requires c κs = search needs
@@ -36,9 +36,9 @@ returns c =
     let P = vertices (start .args .ring .now) in
     let n = start .args .n in
     let back : at P 0 ≡ at P (n - 1 + 1) = sym (ap (at P) (let e : n - 1 + 1 ≡ length P = omega (arith, size start, start .pre .least) in e) ∙ at-end P (omega (arith, size start, start .pre .least))) in
-    counts-edge P (start .args .r) (n - 1) (last .seen .result) (c .before .seen2 .result) none (c .along .result)
+    counts-edge P (headOf (start .args .r)) (n - 1) (last .seen .result) (c .before .seen2 .result) none (c .along .result)
     (last .seen .ensures)
-    (subst (λ p. Sight (start .args .r) p (c .before .seen2 .result)) back (c .before .seen2 .ensures))
+    (subst (λ p. Sight (headOf (start .args .r)) p (c .before .seen2 .result)) back (c .before .seen2 .ensures))
     (c .along .ensures)
 
 pub closing-spec : {M : Type 1} → statement M

@@ -3,7 +3,7 @@ use mathlib.Core.Path.{sym, subst}
 use borrow.Author.Needs.{needs}
 use Rattle.ring.specs.Grid.{vertices}
 use Rattle.ring.specs.Rings.{at}
-use Rattle.ring.specs.Walk.{Way}
+use Rattle.ring.specs.Walk.{headOf, Way}
 use Rattle.ring.proofs.counting.seen.Statement.{statement}
 use Rattle.ring.proofs.counting.seen.Tie as tie
 
@@ -17,7 +17,7 @@ returns : tie.Need-returns
 returns c =
     let start = c .before .before in
     let told = c .marked .ensures in
-    record { way = subst (Way (start .args .r) (at (vertices (start .args .ring .now)) (start .args .i))) (sym (told .0)) (c .before .way .ensures); marked = told .1 }
+    record { way = subst (Way (headOf (start .args .r)) (at (vertices (start .args .ring .now)) (start .args .i))) (sym (told .0)) (c .before .way .ensures); marked = told .1 }
 
 pub seen-spec : {M : Type 1} → statement M
 seen-spec = tie.close (tie.spec way-requires marked-requires returns)

@@ -5,13 +5,13 @@ use native.Mathlib.Omega.{arith}
 use mathlib.Core.Path.{sym, subst}
 use Rattle.ring.specs.Grid.{vertices}
 use Rattle.ring.specs.Rings.{at}
-use Rattle.ring.specs.Walk.{Sight, Counts}
+use Rattle.ring.specs.Walk.{headOf, Sight, Counts}
 use Rattle.ring.proofs.Walks.{counts-none, counts-edge, counts-on}
 use Rattle.ring.proofs.counting.stretch.Statement.{statement}
 use Rattle.ring.proofs.counting.stretch.Tie as tie
 
 abbrev Inv-loop : tie.InvT-loop
-Inv-loop ring r i k count₀ from₀ j₀ count from j = (j ≤ k) × Counts (vertices ring) r i j count₀ count × Sight r (at (vertices ring) (i + j)) from
+Inv-loop ring r i k count₀ from₀ j₀ count from j = (j ≤ k) × Counts (vertices ring) (headOf r) i j count₀ count × Sight (headOf r) (at (vertices ring) (i + j)) from
 
 abbrev μ-loop : tie.MeasureT-loop
 μ-loop ring r i k count₀ from₀ j₀ count from j = k - j
@@ -23,7 +23,7 @@ loop-holds : tie.Need-loop-holds Inv-loop μ-loop
 loop-holds c =
     let a = c .before .args in
     let P = vertices (a .ring .now) in
-    (omega arith, counts-none P (a .r) (a .i) (a .c), subst (λ m. Sight (a .r) (at P m) (c .seen .result)) (sym (add-zero (a .i))) (c .seen .ensures))
+    (omega arith, counts-none P (headOf (a .r)) (a .i) (a .c), subst (λ m. Sight (headOf (a .r)) (at P m) (c .seen .result)) (sym (add-zero (a .i))) (c .seen .ensures))
 
 add-seen : tie.Need-add-seen Inv-loop μ-loop
 add-seen c =
@@ -65,8 +65,8 @@ loop-again c =
     let (le, counts, sight) = turn .loop .inv in
     let ahead = c .before .seen2 .ensures in (
       omega (arith, c .before .before .loop-test .taken),
-      counts-on P (a .r) i j 1 (a .c) (turn .loop .count) (c .along .result) counts (counts-edge P (a .r) (i + j) (turn .loop .from) (c .before .seen2 .result) (turn .loop .count) (c .along .result) sight ahead (c .along .ensures)),
-      subst (λ m. Sight (a .r) (at P m) (c .before .seen2 .result)) (add-assoc i j 1) ahead,
+      counts-on P (headOf (a .r)) i j 1 (a .c) (turn .loop .count) (c .along .result) counts (counts-edge P (headOf (a .r)) (i + j) (turn .loop .from) (c .before .seen2 .result) (turn .loop .count) (c .along .result) sight ahead (c .along .ensures)),
+      subst (λ m. Sight (headOf (a .r)) (at P m) (c .before .seen2 .result)) (add-assoc i j 1) ahead,
     )
 
 returns : tie.Need-returns Inv-loop μ-loop
@@ -74,7 +74,7 @@ returns c =
     let turn = c .before in
     let a = turn .before .before .args in
     let (le, counts, sight) = turn .loop .inv in
-    subst (λ m. Counts (vertices (a .ring .now)) (a .r) (a .i) m (a .c) (turn .loop .count)) (omega (arith, le, c .loop-test .left)) counts
+    subst (λ m. Counts (vertices (a .ring .now)) (headOf (a .r)) (a .i) m (a .c) (turn .loop .count)) (omega (arith, le, c .loop-test .left)) counts
 
 pub stretch-spec : {M : Type 1} → statement M
 stretch-spec =

@@ -4,7 +4,7 @@ use mathlib.Core.Path.{_≡_, sym, ap, subst, _∙_}
 use lib.ListN.{length}
 use borrow.Author.Needs.{needs}
 use Rattle.ring.specs.Grid.{vertices}
-use Rattle.ring.specs.Walk.{Ready, metAt}
+use Rattle.ring.specs.Walk.{headOf, Ready, metAt}
 use Rattle.ring.proofs.Vertices.{length-vertices}
 use Rattle.ring.proofs.Settled.{part-whole, clear-off, settled}
 use Rattle.ring.proofs.walk.locate_on.Statement.{statement}
@@ -25,10 +25,14 @@ part-find-start c = search needs
 part-find-end : tie.Need-part-find-end
 part-find-end c = search needs
 
+wide-requires : tie.Need-wide-requires
+wide-requires c κs = search needs
+
 find-requires : tie.Need-find-requires
 find-requires c κs =
-    let start = c .before .before .before .before in
-    subst (λ xs. Ready xs (start .args .n) (start .args .r)) (sym (part-whole (start .args .ring .now) (start .args .n) (start .pre .even))) (start .pre)
+    let start = c .before .before .before .before .before in
+    let n = start .args .n in
+    subst (λ xs. Ready xs n (headOf (c .wide .result))) (sym (part-whole (start .args .ring .now) n (start .pre .even))) (subst (Ready (start .args .ring .now) n) (sym (c .wide .ensures)) (start .pre))
 
 found-requires : tie.Need-found-requires
 found-requires c κs = search needs
@@ -38,10 +42,11 @@ size c = length-vertices (c .args .ring .now) (c .args .n) (c .pre .even)
 
 returns : tie.Need-returns
 returns c =
-    let counted = c .before .before .before .before .before in
+    let widened = c .before .before in
+    let counted = widened .before .before .before .before in
     let start = counted .before in
     let xs = start .args .ring .now in
-    let met = c .before .find .ensures ∙ ap (λ ys. metAt (vertices ys) (start .args .r) (start .args .n)) (part-whole xs (start .args .n) (start .pre .even)) in
+    let met = c .before .find .ensures ∙ (λ i. metAt (vertices (part-whole xs (start .args .n) (start .pre .even) i)) (widened .wide .ensures i) (start .args .n)) in
     c .found .ensures ∙ settled (vertices xs) (start .args .r) (counted .blocks2 .result) (counted .blocks2 .ensures) (start .args .n) (c .before .find .result) (size start) met
 
 off-requires : tie.Need-off-requires
@@ -62,6 +67,7 @@ locate-on-spec =
     sub-find
     part-find-start
     part-find-end
+    wide-requires
     find-requires
     found-requires
     returns

@@ -1,0 +1,74 @@
+-- `ring::locate_long` refuses in the rules' order and otherwise answers what the walk round the ring finds. Assumes nothing.
+use mathlib.Core.Path.{_≡_, sym, ap, _∙_}
+use mathlib.Core.Bool.{false, _||_}
+use mir.Facts.{toZ-ofZ}
+use borrow.Author.Needs.{needs}
+use Rattle.ring.specs.Grid.{point, vertices, beyond}
+use Rattle.ring.specs.Locate.{locatedOn}
+use Rattle.ring.proofs.Asked.{noRingOf, beyondOf, located-no-ring, located-beyond, located-on, asked-ready}
+use Rattle.ring.proofs.locate_long.Statement.{statement}
+use Rattle.ring.proofs.locate_long.Tie as tie
+
+no-ring-requires : tie.Need-no-ring-requires
+no-ring-requires c κs = search needs
+
+returns : tie.Need-returns
+returns c =
+    let a = c .before .before .args in
+    located-no-ring (a .ring .now) (a .x) (a .y) (sym (c .before .no-ring .ensures) ∙ c .if1 .taken)
+
+some-beyond-requires : tie.Need-some-beyond-requires
+some-beyond-requires c κs = search needs
+
+beyond-requires : tie.Need-beyond-requires
+beyond-requires c κs = search needs
+
+beyond-requires-2 : tie.Need-beyond-requires-2
+beyond-requires-2 c κs = search needs
+
+-- the first test is the rules'
+a-ring : (c : tie.Else1) → noRingOf (c .before .before .args .ring .now) (c .before .before .args .x) (c .before .before .args .y) ≡ false
+a-ring c = sym (c .before .no-ring .ensures) ∙ c .if1 .left
+
+-- and so is the second
+tested : (c : tie.After-beyond2) → let start = c .before .before .before .before .before in beyondOf (start .args .ring .now) (start .args .x) (start .args .y) ≡ (c .before .before .some-beyond .result || (c .before .beyond .result || c .beyond2 .result))
+tested c =
+    let start = c .before .before .before .before .before in
+    let x = c .before .beyond .ensures ∙ ap beyond (toZ-ofZ (start .fits .x)) in
+    let y = c .beyond2 .ensures ∙ ap beyond (toZ-ofZ (start .fits .y)) in
+    sym (λ i. c .before .before .some-beyond .ensures i || (x i || y i))
+
+returns-2 : tie.Need-returns-2
+returns-2 c =
+    let first = c .before .before .before .before in
+    let a = first .before .before .args in
+    located-beyond (a .ring .now) (a .x) (a .y) (a-ring first) (tested (c .before) ∙ c .if2 .taken)
+
+locate-on-requires : tie.Need-locate-on-requires
+locate-on-requires c κs =
+    let first = c .before .before .before .before in
+    let start = first .before .before in
+    simp (toZ-ofZ (start .fits .x), toZ-ofZ (start .fits .y)) (asked-ready (start .args .ring .now) (start .args .x) (start .args .y) (a-ring first) (tested (c .before) ∙ c .if2 .left))
+
+returns-3 : tie.Need-returns-3
+returns-3 c =
+    let passed = c .before in
+    let first = passed .before .before .before .before in
+    let start = first .before .before in
+    let a = start .args in
+    c .locate-on .ensures
+    ∙ (λ i. locatedOn (vertices (a .ring .now)) (point (toZ-ofZ (start .fits .x) i) (toZ-ofZ (start .fits .y) i)))
+    ∙ located-on (a .ring .now) (a .x) (a .y) (a-ring first) (tested (passed .before) ∙ passed .if2 .left)
+
+pub locate-long-spec : {M : Type 1} → statement M
+locate-long-spec =
+    tie.close
+    (tie.spec
+    no-ring-requires
+    returns
+    some-beyond-requires
+    beyond-requires
+    beyond-requires-2
+    returns-2
+    locate-on-requires
+    returns-3)
