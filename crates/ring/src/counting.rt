@@ -176,12 +176,12 @@ fn block(ring: &[i32], r: Point, i: usize, k: usize, c: Count) -> Count
     stretch(ring, w, i, k, c)
 }
 
-// How many edges the block from vertex i has, of those that lead to vertex n - 1.
-fn block_size(i: usize, n: usize) -> usize
-    requires { ⌜ (i + 1 < n) × (n ≤ 2048) ⌝ }
-    ensures { λ k. ⌜ (0 < k) × (i + k < n) ⌝ }
+// How many edges the block from vertex i has, of those that lead to vertex `last`.
+fn block_size(i: usize, last: usize) -> usize
+    requires { ⌜ (i < last) × (last ≤ 2048) ⌝ }
+    ensures { λ k. ⌜ (0 < k) × (i + k ≤ last) ⌝ }
 {
-    let left = n - 1 - i;
+    let left = last - i;
     if BLOCK < left { BLOCK } else { left }
 }
 
@@ -208,10 +208,11 @@ pub fn blocks(ring: &[i32], n: usize, r: Point) -> Count
     requires { ⌜ Ready (now ring) n r ⌝ }
     ensures { λ c. ⌜ Counted (vertices (now (ring .entry))) r c ⌝ }
 {
+    let last = n - 1;
     let mut count = closing(ring, n, grid::wide(r));
     let mut i = 0;
-    while i + 1 < n {
-        let k = block_size(i, n);
+    while i < last {
+        let k = block_size(i, last);
         count = block(ring, r, i, k, count);
         i += k;
     }

@@ -1,5 +1,5 @@
 -- `ring::counting::blocks`: the closing edge, and after some blocks the first i edges. The measure is the number of edges left. Assumes nothing.
-use Prim.Native.Nat.{_-_, _<_}
+use Prim.Native.Nat.{_-_, _≤_}
 use native.Mathlib.Omega.{arith}
 use native.Mathlib.Nat.{zero-add}
 use mathlib.Core.Path.{_≡_, sym, subst}
@@ -14,13 +14,16 @@ use Rattle.ring.proofs.counting.blocks.Statement.{statement}
 use Rattle.ring.proofs.counting.blocks.Tie as tie
 
 abbrev Inv-loop : tie.InvT-loop
-Inv-loop ring n r count₀ i₀ count i = (i < n) × Counts (vertices ring) r 0 i count₀ count
+Inv-loop ring n r last count₀ i₀ count i = (i ≤ last) × Counts (vertices ring) r 0 i count₀ count
 
 abbrev μ-loop : tie.MeasureT-loop
-μ-loop ring n r count₀ i₀ count i = n - i
+μ-loop ring n r last count₀ i₀ count i = last - i
 
 size : (c : tie.Start Inv-loop μ-loop) → length (vertices (c .args .ring .now)) ≡ c .args .n
 size c = length-vertices (c .args .ring .now) (c .args .n) (c .pre .even)
+
+sub-last : tie.Need-sub-last Inv-loop μ-loop
+sub-last c = omega (arith, c .pre .least)
 
 wide-requires : tie.Need-wide-requires Inv-loop μ-loop
 wide-requires c κs = search needs
@@ -33,11 +36,8 @@ loop-holds c =
     let start = c .before .before in
     (omega (arith, start .pre .least), counts-none (vertices (start .args .ring .now)) (start .args .r) 0 (c .closing .result))
 
-add-loop : tie.Need-add-loop Inv-loop μ-loop
-add-loop c = omega (arith, c .loop .inv .0, c .before .before .before .pre .most)
-
 block-size-requires : tie.Need-block-size-requires Inv-loop μ-loop
-block-size-requires c κs = (c .loop-test .taken, c .before .before .before .before .pre .most)
+block-size-requires c κs = (c .loop-test .taken, omega (arith, c .before .before .before .before .pre .most))
 
 block-requires : tie.Need-block-requires Inv-loop μ-loop
 block-requires c κs =
@@ -46,7 +46,7 @@ block-requires c κs =
     let ready = start .pre in
     let block = c .block-size .ensures in (
       ready-clean (start .args .ring .now) (start .args .n) (start .args .r) ready,
-      ((block .0, omega (arith, size start, block .1)), omega (arith, block .1, turn .loop .inv .1 .few, turn .before .closing .ensures .few, ready .most)),
+      ((block .0, omega (arith, size start, block .1, ready .least)), omega (arith, block .1, turn .loop .inv .1 .few, turn .before .closing .ensures .few, ready .most)),
     )
 
 add-i : tie.Need-add-i Inv-loop μ-loop
@@ -85,10 +85,10 @@ blocks-spec =
     (tie.spec
     Inv-loop
     μ-loop
+    sub-last
     wide-requires
     closing-requires
     loop-holds
-    add-loop
     block-size-requires
     block-requires
     add-i
