@@ -1,5 +1,6 @@
 pub mod Pick
 pub mod Vertices
+pub mod Columns
 pub mod OnGrid
 pub mod Quadrants
 pub mod Search

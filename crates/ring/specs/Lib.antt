@@ -1,5 +1,6 @@
 pub mod Choices
 pub mod Grid
+pub mod Columns
 pub mod Rings
 pub mod Turns
 pub mod Crossings
