@@ -15,7 +15,7 @@ use Rattle.ring.proofs.Search.{Unmet}
 abbrev pub beyondAt : List ℤ → ℕ → Bool
 beyondAt xs j = beyond (getD xs j (pos 0))
 
-each-within : (xs : List ℤ) → someBeyond xs ≡ false → (j : ℕ) → beyondAt xs j ≡ false
+pub each-within : (xs : List ℤ) → someBeyond xs ≡ false → (j : ℕ) → beyondAt xs j ≡ false
 each-within [] e j = refl
 each-within (x ∷ xs) e zero = neither-left (beyond x) _ e
 each-within (x ∷ xs) e (suc j) = each-within xs (neither-right (beyond x) _ e) j

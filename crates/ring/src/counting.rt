@@ -33,7 +33,7 @@ pub struct Count {
 // What an edge adds to the crossings.
 struct Step(i64);
 
-fn marked(way: exact::Arrow) -> End
+pub fn marked(way: exact::Arrow) -> End
     ensures { λ e. ⌜ (e .way ≡ way) × Marked e ⌝ }
 {
     if way.y < 0 {
@@ -88,7 +88,7 @@ impl Count {
     }
 
     // The count after the edge from one end to the other.
-    fn along(self, from: End, to: End) -> Count
+    pub fn along(self, from: End, to: End) -> Count
         requires { ⌜ natAbs (self .turns) ≤ mostTurns ⌝ }
         requires { ⌜ Marked from × Marked to ⌝ }
         requires { ⌜ Short (from .way) × Short (to .way) ⌝ }
@@ -101,7 +101,7 @@ impl Count {
 
     // The count after edges from one end to the other that r's row or column misses: if they lie east of r, the two ends alone tell what they
     // count; otherwise they count nothing, and above or below the row the ends do not differ.
-    fn past(self, from: End, to: End) -> Count
+    pub fn past(self, from: End, to: End) -> Count
         requires { ⌜ natAbs (self .turns) ≤ mostTurns ⌝ }
         requires { ⌜ Marked from × Marked to ⌝ }
         ensures { λ c. ⌜ (c .turns ≡ self .turns +ℤ pick (ltZ (pos 0) (from .way .x)) (from .low -ℤ to .low) (pos 0)) × (c .clear ≡ self .clear) ⌝ }
@@ -177,7 +177,7 @@ fn block(ring: &[i32], r: Point, i: usize, k: usize, c: Count) -> Count
 }
 
 // How many edges the block from vertex i has, of those that lead to vertex `last`.
-fn block_size(i: usize, last: usize) -> usize
+pub fn block_size(i: usize, last: usize) -> usize
     requires { ⌜ (i < last) × (last ≤ 2048) ⌝ }
     ensures { λ k. ⌜ (0 < k) × (i + k ≤ last) ⌝ }
 {

@@ -55,7 +55,7 @@ impl Span {
     }
 
     // With edge i if it holds r; the ways lead to its ends.
-    fn along(self, i: usize, n: usize, from: exact::Arrow, to: exact::Arrow) -> Span
+    pub fn along(self, i: usize, n: usize, from: exact::Arrow, to: exact::Arrow) -> Span
         requires { ⌜ Short from × Short to ⌝ }
         ensures { λ s. ⌜ (s .lowest ≡ pick (inLine from to) (pick (leb n (self .lowest)) i (self .lowest)) (self .lowest)) × (s .highest ≡ pick (inLine from to) i (self .highest)) ⌝ }
     {

@@ -1,0 +1,115 @@
+// Counting crossings along the edges of a ring in columns; those that r's row or column misses are passed over, some at a time.
+use crate::vertex;
+use ring::Count;
+use ring::End;
+use ring::Point;
+ghost use mathlib.Core.Path.{_≡_};
+ghost use Prim.Native.Nat.{_+_, _-_, _<_, _≤_};
+ghost use mathlib.Core.Bool.{true};
+ghost use lib.IntN.{natAbs};
+ghost use lib.ListN.{length};
+ghost use Rattle.ring.specs.Columns.{points};
+ghost use Rattle.ring.specs.Rings.{at};
+ghost use Rattle.ring.specs.Walk.{headOf, mostTurns, Way, Sight, Counts, Aside, none, Counted};
+ghost use Rattle.columns.specs.Walk.{Clean, Ready};
+
+// The way to vertex i from the point that r leads to.
+pub fn way(xs: &[i32], ys: &[i32], r: exact::Arrow, i: usize) -> exact::Arrow
+    requires { ⌜ Clean (now xs) (now ys) (headOf r) ⌝ }
+    requires { ⌜ i < length (now xs) ⌝ }
+    ensures { λ a. ⌜ Way (headOf r) (at (points (now (xs .entry)) (now (ys .entry))) i) a ⌝ }
+{
+    let p = vertex(xs, ys, i);
+    exact::between(r, p.x, p.y)
+}
+
+// Vertex i as seen from r.
+fn seen(xs: &[i32], ys: &[i32], r: exact::Arrow, i: usize) -> End
+    requires { ⌜ Clean (now xs) (now ys) (headOf r) ⌝ }
+    requires { ⌜ i < length (now xs) ⌝ }
+    ensures { λ e. ⌜ Sight (headOf r) (at (points (now (xs .entry)) (now (ys .entry))) i) e ⌝ }
+{
+    ring::marked(way(xs, ys, r, i))
+}
+
+// The count of the closing edge.
+fn closing(xs: &[i32], ys: &[i32], r: exact::Arrow) -> Count
+    requires { ⌜ Ready (now xs) (now ys) (headOf r) ⌝ }
+    ensures { λ c. ⌜ Counts (points (now (xs .entry)) (now (ys .entry))) (headOf r) (length (now (xs .entry)) - 1) 1 none c ⌝ }
+{
+    let nothing = Count { turns: 0, clear: 1 };
+    let last = xs.len() - 1;
+    nothing.along(seen(xs, ys, r, last), seen(xs, ys, r, 0))
+}
+
+// On from c along the k edges from vertex i.
+fn stretch(xs: &[i32], ys: &[i32], r: exact::Arrow, i: usize, k: usize, c: Count) -> Count
+    requires { ⌜ Clean (now xs) (now ys) (headOf r) ⌝ }
+    requires { ⌜ i + k < length (now xs) ⌝ }
+    requires { ⌜ natAbs (c .turns) + k ≤ mostTurns ⌝ }
+    ensures { λ v. ⌜ Counts (points (now (xs .entry)) (now (ys .entry))) (headOf r) i k c v ⌝ }
+{
+    let mut count = c;
+    let mut from = seen(xs, ys, r, i);
+    let mut j = 0;
+    while j < k {
+        let to = seen(xs, ys, r, i + j + 1);
+        count = count.along(from, to);
+        from = to;
+        j += 1;
+    }
+    count
+}
+
+// Whether the vertices from vertex i to vertex i + k lie all north, all south, all east or all west of r. It reads them all, with no branch on
+// what it reads.
+fn missed(xs: &[i32], ys: &[i32], r: Point, i: usize, k: usize) -> bool
+    requires { ⌜ Clean (now xs) (now ys) r ⌝ }
+    requires { ⌜ i + k < length (now xs) ⌝ }
+    ensures { λ m. ⌜ (m ≡ true → Aside (points (now (xs .entry)) (now (ys .entry))) r i k) ⌝ }
+{
+    let mut north = true;
+    let mut south = true;
+    let mut east = true;
+    let mut west = true;
+    let mut j = 0;
+    while j <= k {
+        let p = vertex(xs, ys, i + j);
+        north = north & (r.y < p.y);
+        south = south & (p.y < r.y);
+        east = east & (r.x < p.x);
+        west = west & (p.x < r.x);
+        j += 1;
+    }
+    (north | south) | (east | west)
+}
+
+// On from c along the k edges from vertex i, or past them.
+fn block(xs: &[i32], ys: &[i32], r: Point, i: usize, k: usize, c: Count) -> Count
+    requires { ⌜ Clean (now xs) (now ys) r ⌝ }
+    requires { ⌜ (0 < k) × (i + k < length (now xs)) ⌝ }
+    requires { ⌜ natAbs (c .turns) + k ≤ mostTurns ⌝ }
+    ensures { λ v. ⌜ Counts (points (now (xs .entry)) (now (ys .entry))) r i k c v ⌝ }
+{
+    let w = ring::wide(r);
+    if missed(xs, ys, r, i, k) {
+        return c.past(seen(xs, ys, w, i), seen(xs, ys, w, i + k));
+    }
+    stretch(xs, ys, w, i, k, c)
+}
+
+// All edges of a ring, by blocks.
+pub fn blocks(xs: &[i32], ys: &[i32], r: Point) -> Count
+    requires { ⌜ Ready (now xs) (now ys) r ⌝ }
+    ensures { λ c. ⌜ Counted (points (now (xs .entry)) (now (ys .entry))) r c ⌝ }
+{
+    let last = xs.len() - 1;
+    let mut count = closing(xs, ys, ring::wide(r));
+    let mut i = 0;
+    while i < last {
+        let k = ring::block_size(i, last);
+        count = block(xs, ys, r, i, k, count);
+        i += k;
+    }
+    count
+}
