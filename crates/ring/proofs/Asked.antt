@@ -1,12 +1,15 @@
 -- The rules' answer to a list and a point, by the two tests that come first. Assumes nothing.
-use Prim.Native.Nat.{ℕ, _/_, _%_, _≤_}
+use Prim.Native.Nat.{_/_, _%_}
 use native.Mathlib.Omega.{arith}
-use mathlib.Core.Path.{_≡_, sym, _∙_}
+use mathlib.Core.Path.{_≡_, sym, ap, _∙_}
 use mathlib.Core.Bool.{Bool, true, false, _||_}
 use mathlib.Core.List.{List}
 use lib.Dec.{eqb, ltb}
 use lib.IntN.{ℤ}
 use lib.ListN.{length}
+use mir.Syntax.{w32}
+use mir.Val.{SFits, toZ, ofZ}
+use mir.Facts.{toZ-ofZ}
 use borrow.Author.Tests.{eqb-false, ltb-false}
 use Rattle.ring.specs.Grid.{point, vertices, beyond, someBeyond, noRing}
 use Rattle.ring.specs.Locate.{refused, located, locatedOn}
@@ -20,6 +23,10 @@ module _ (xs : List ℤ) (a b : ℤ) where
 
   abbrev pub beyondOf : Bool
   beyondOf = someBeyond xs || (beyond a || beyond b)
+
+  -- the second test, as the code makes it of the list and of numbers of 32 bits
+  pub tested-beyond : {s p q : Bool} → SFits w32 a → SFits w32 b → s ≡ someBeyond xs → p ≡ beyond (toZ w32 (ofZ w32 a)) → q ≡ beyond (toZ w32 (ofZ w32 b)) → beyondOf ≡ (s || (p || q))
+  tested-beyond f g e d h = sym (λ i. e i || ((d ∙ ap beyond (toZ-ofZ f)) i || (h ∙ ap beyond (toZ-ofZ g)) i))
 
   pub located-no-ring : noRingOf ≡ true → refused 4 ≡ located xs a b
   unfolding located

@@ -7,7 +7,7 @@ use mathlib.Core.List.{List, [], _∷_}
 use lib.IntN.{ℤ}
 use lib.ListN.{length, take, drop}
 use Rattle.ring.specs.Grid.{point, beyond, someBeyond, vertices}
-use Rattle.ring.specs.Columns.{points, interleaved, Alike}
+use Rattle.ring.specs.Columns.{points, interleaved}
 
 pub points-are : (xs ys : List ℤ) → vertices (interleaved xs ys) ≡ points xs ys
 unfolding vertices points interleaved

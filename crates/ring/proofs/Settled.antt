@@ -1,5 +1,5 @@
 -- What was met and what was counted settle the rules' answer. Assumes nothing.
-use Prim.Native.Nat.{ℕ, suc, _+_, _*_, _-_, _<_}
+use Prim.Native.Nat.{ℕ, suc, _-_, _≤_, _<_}
 use native.Mathlib.Nat.{zero-add, le-refl}
 use native.Mathlib.Omega.{arith}
 use mathlib.Core.Path.{_≡_, refl, sym, ap, _∙_}
@@ -22,9 +22,9 @@ use Rattle.ring.proofs.Pick.{pick-true, pick-false}
 use Rattle.ring.proofs.Search.{lowest-over, Unmet, unmet-all}
 use Rattle.ring.proofs.Crossings.{end-off}
 
--- the part of a ring's list that is all of it
-pub part-whole : (xs : List ℤ) (n : ℕ) → length xs ≡ n + n → take (2 * n - 0) xs ≡ xs
-part-whole xs n e = take-all (2 * n - 0) xs (omega arith)
+-- the part of a list that is all of it
+pub part-whole : (xs : List ℤ) (k : ℕ) → length xs ≤ k → take (k - 0) xs ≡ xs
+part-whole xs k h = take-all (k - 0) xs (omega arith)
 
 -- a point that no edge holds is off the ring
 pub off-ring : (P : List Point) (R : Point) → Unmet (onEdge P R) (length P) → locatedOn P R ≡ off (winding P R) (oddly (winding P R))

@@ -1,15 +1,13 @@
 -- `columns::locate_on` counts by blocks, and looks for places only where some determinant was 0. Assumes nothing.
 use Prim.Native.Nat.{_-_}
+use native.Mathlib.Nat.{le-refl}
 use native.Mathlib.Omega.{arith}
-use mathlib.Core.Path.{_≡_, sym, ap, subst, _∙_}
-use mathlib.Core.List.{List}
-use lib.IntN.{ℤ}
+use mathlib.Core.Path.{_≡_, sym, subst, _∙_}
 use lib.ListN.{length, take}
-use lib.Seq.{take-all}
 use borrow.Author.Needs.{needs}
 use Rattle.ring.specs.Columns.{points}
 use Rattle.ring.specs.Walk.{headOf, metAt}
-use Rattle.ring.proofs.Settled.{clear-off, settled}
+use Rattle.ring.proofs.Settled.{part-whole, clear-off, settled}
 use Rattle.columns.specs.Walk.{Ready}
 use Rattle.columns.proofs.Spots.{length-points}
 use Rattle.columns.proofs.locate_on.Statement.{statement}
@@ -41,10 +39,10 @@ wide-requires c κs = search needs
 
 -- the parts of the columns that are all of them
 whole-x : (c : tie.Start) → let xs = c .args .xs .now in take (length xs - 0) xs ≡ xs
-whole-x c = let xs = c .args .xs .now in take-all (length xs - 0) xs (omega arith)
+whole-x c = let xs = c .args .xs .now in part-whole xs (length xs) (le-refl (length xs))
 
 whole-y : (c : tie.Start) → let ys = c .args .ys .now in take (length (c .args .xs .now) - 0) ys ≡ ys
-whole-y c = take-all (length (c .args .xs .now) - 0) (c .args .ys .now) (omega (arith, c .pre .clean .even))
+whole-y c = part-whole (c .args .ys .now) (length (c .args .xs .now)) (omega (arith, c .pre .clean .even))
 
 find-requires : tie.Need-find-requires
 find-requires c κs =

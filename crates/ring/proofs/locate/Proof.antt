@@ -1,5 +1,6 @@
 -- `ring::locate` refuses a short ring in the rules' order and otherwise answers what counting its edges tells; where some determinant was 0 it looks for places. Assumes nothing.
 use Prim.Native.Nat.{_-_, _/_, _%_, _≤_}
+use native.Mathlib.Nat.{le-refl}
 use native.Mathlib.Omega.{arith}
 use mathlib.Core.Path.{_≡_, sym, ap, subst, _∙_}
 use mathlib.Core.Bool.{Bool, false, _||_}
@@ -7,25 +8,23 @@ use mathlib.Core.List.{List}
 use lib.Dec.{ltb}
 use lib.IntN.{ℤ}
 use lib.ListN.{length, take}
-use lib.Seq.{take-all}
 use mir.Facts.{toZ-ofZ}
 use borrow.Author.Needs.{needs}
 use borrow.Author.Tests.{ltb-false, eq-eqb, ne-eqb, le-ltb}
 use Rattle.ring.specs.declared.Point.{Point}
-use Rattle.ring.specs.Grid.{point, vertices, beyond}
+use Rattle.ring.specs.Grid.{point, vertices}
 use Rattle.ring.specs.Locate.{located, locatedOn}
 use Rattle.ring.specs.Walk.{headOf, Ready, Counted, metAt}
 use Rattle.ring.proofs.Pick.{neither-left, neither-right}
 use Rattle.ring.proofs.Vertices.{length-vertices}
 use Rattle.ring.proofs.OnGrid.{headed}
-use Rattle.ring.proofs.Settled.{clear-off, settled}
-use Rattle.ring.proofs.Asked.{noRingOf, beyondOf, located-no-ring, located-beyond, located-on, asked-ready}
+use Rattle.ring.proofs.Settled.{part-whole, clear-off, settled}
+use Rattle.ring.proofs.Asked.{noRingOf, beyondOf, tested-beyond, located-no-ring, located-beyond, located-on, asked-ready}
 use Rattle.ring.proofs.locate.Statement.{statement}
 use Rattle.ring.proofs.locate.Tie as tie
 
--- the part of a list that is all of it
 whole : (xs : List ℤ) → take (length xs - 0) xs ≡ xs
-whole xs = take-all (length xs - 0) xs (omega arith)
+whole xs = part-whole xs (length xs) (le-refl (length xs))
 
 sub-locate-long : tie.Need-sub-locate-long
 sub-locate-long c = search needs
@@ -76,9 +75,7 @@ beyond-requires-2 c κs = search needs
 tested : (c : tie.After-beyond2) → let start = c .before .before .before .before .before in beyondOf (start .args .ring .now) (start .args .x) (start .args .y) ≡ (c .before .before .some-beyond-short .result || (c .before .beyond .result || c .beyond2 .result))
 tested c =
     let start = c .before .before .before .before .before in
-    let x = c .before .beyond .ensures ∙ ap beyond (toZ-ofZ (start .fits .x)) in
-    let y = c .beyond2 .ensures ∙ ap beyond (toZ-ofZ (start .fits .y)) in
-    sym (λ i. c .before .before .some-beyond-short .ensures i || (x i || y i))
+    tested-beyond (start .args .ring .now) (start .args .x) (start .args .y) (start .fits .x) (start .fits .y) (c .before .before .some-beyond-short .ensures) (c .before .beyond .ensures) (c .beyond2 .ensures)
 
 returns-3 : tie.Need-returns-3
 returns-3 c =

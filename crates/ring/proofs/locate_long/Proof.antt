@@ -1,11 +1,11 @@
 -- `ring::locate_long` refuses in the rules' order and otherwise answers what the walk round the ring finds. Assumes nothing.
-use mathlib.Core.Path.{_≡_, sym, ap, _∙_}
+use mathlib.Core.Path.{_≡_, sym, _∙_}
 use mathlib.Core.Bool.{false, _||_}
 use mir.Facts.{toZ-ofZ}
 use borrow.Author.Needs.{needs}
-use Rattle.ring.specs.Grid.{point, vertices, beyond}
+use Rattle.ring.specs.Grid.{point, vertices}
 use Rattle.ring.specs.Locate.{locatedOn}
-use Rattle.ring.proofs.Asked.{noRingOf, beyondOf, located-no-ring, located-beyond, located-on, asked-ready}
+use Rattle.ring.proofs.Asked.{noRingOf, beyondOf, tested-beyond, located-no-ring, located-beyond, located-on, asked-ready}
 use Rattle.ring.proofs.locate_long.Statement.{statement}
 use Rattle.ring.proofs.locate_long.Tie as tie
 
@@ -34,9 +34,7 @@ a-ring c = sym (c .before .no-ring .ensures) ∙ c .if1 .left
 tested : (c : tie.After-beyond2) → let start = c .before .before .before .before .before in beyondOf (start .args .ring .now) (start .args .x) (start .args .y) ≡ (c .before .before .some-beyond .result || (c .before .beyond .result || c .beyond2 .result))
 tested c =
     let start = c .before .before .before .before .before in
-    let x = c .before .beyond .ensures ∙ ap beyond (toZ-ofZ (start .fits .x)) in
-    let y = c .beyond2 .ensures ∙ ap beyond (toZ-ofZ (start .fits .y)) in
-    sym (λ i. c .before .before .some-beyond .ensures i || (x i || y i))
+    tested-beyond (start .args .ring .now) (start .args .x) (start .args .y) (start .fits .x) (start .fits .y) (c .before .before .some-beyond .ensures) (c .before .beyond .ensures) (c .beyond2 .ensures)
 
 returns-2 : tie.Need-returns-2
 returns-2 c =

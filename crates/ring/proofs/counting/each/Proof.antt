@@ -19,7 +19,7 @@ use Rattle.ring.proofs.counting.each.Statement.{statement}
 use Rattle.ring.proofs.counting.each.Tie as tie
 
 -- the count c became v along the first edges, and `from` is where they end; the next vertex stands at place k
-record Gone-along (xs : List ℤ) (n : ℕ) (R : Point) (c v : Count) (from : End) (k : ℕ) : Type 0 where
+record Walked (xs : List ℤ) (n : ℕ) (R : Point) (c v : Count) (from : End) (k : ℕ) : Type 0 where
   edges : ℕ
   place : k ≡ edges + edges + 2
   within : edges < n
@@ -27,7 +27,7 @@ record Gone-along (xs : List ℤ) (n : ℕ) (R : Point) (c v : Count) (from : En
   sight : Sight R (at (vertices xs) edges) from
 
 abbrev Inv-loop : tie.InvT-loop
-Inv-loop ring n r count₀ from₀ k₀ count from k = Gone-along ring n (headOf r) count₀ count from k
+Inv-loop ring n r count₀ from₀ k₀ count from k = Walked ring n (headOf r) count₀ count from k
 
 abbrev μ-loop : tie.MeasureT-loop
 μ-loop ring n r count₀ from₀ k₀ count from k = length ring - k

@@ -1,7 +1,8 @@
 -- `ring::walk::locate_on` counts by blocks, and looks for places only where some determinant was 0. Assumes nothing.
+use Prim.Native.Nat.{_*_, _-_}
 use native.Mathlib.Omega.{arith}
 use mathlib.Core.Path.{_≡_, sym, ap, subst, _∙_}
-use lib.ListN.{length}
+use lib.ListN.{length, take}
 use borrow.Author.Needs.{needs}
 use Rattle.ring.specs.Grid.{vertices}
 use Rattle.ring.specs.Walk.{headOf, Ready, metAt}
@@ -25,6 +26,9 @@ part-find-start c = search needs
 part-find-end : tie.Need-part-find-end
 part-find-end c = search needs
 
+whole : (c : tie.Start) → take (2 * c .args .n - 0) (c .args .ring .now) ≡ c .args .ring .now
+whole c = part-whole (c .args .ring .now) (2 * c .args .n) (omega (arith, c .pre .even))
+
 wide-requires : tie.Need-wide-requires
 wide-requires c κs = search needs
 
@@ -32,7 +36,7 @@ find-requires : tie.Need-find-requires
 find-requires c κs =
     let start = c .before .before .before .before .before in
     let n = start .args .n in
-    subst (λ xs. Ready xs n (headOf (c .wide .result))) (sym (part-whole (start .args .ring .now) n (start .pre .even))) (subst (Ready (start .args .ring .now) n) (sym (c .wide .ensures)) (start .pre))
+    subst (λ xs. Ready xs n (headOf (c .wide .result))) (sym (whole start)) (subst (Ready (start .args .ring .now) n) (sym (c .wide .ensures)) (start .pre))
 
 found-requires : tie.Need-found-requires
 found-requires c κs = search needs
@@ -46,7 +50,7 @@ returns c =
     let counted = widened .before .before .before .before in
     let start = counted .before in
     let xs = start .args .ring .now in
-    let met = c .before .find .ensures ∙ (λ i. metAt (vertices (part-whole xs (start .args .n) (start .pre .even) i)) (widened .wide .ensures i) (start .args .n)) in
+    let met = c .before .find .ensures ∙ (λ i. metAt (vertices (whole start i)) (widened .wide .ensures i) (start .args .n)) in
     c .found .ensures ∙ settled (vertices xs) (start .args .r) (counted .blocks2 .result) (counted .blocks2 .ensures) (start .args .n) (c .before .find .result) (size start) met
 
 off-requires : tie.Need-off-requires
