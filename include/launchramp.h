@@ -1,11 +1,12 @@
 /* launchramp.h: the calls of liblaunchramp, for C and C++. Where a point lies, and districts that are split, merged and asked, all exactly.
  *
- * A register is three lists that the caller keeps: `outline` of LAUNCHRAMP_OUTLINE_LENGTH numbers, `store` of LAUNCHRAMP_STORE_LENGTH and `runs` of
- * LAUNCHRAMP_RUNS_LENGTH. Lists of zeros are an empty register. Rings, paths, outlines and the store hold x, y, x, y, ..; coordinates are whole
- * millimetres. A list's length is told in numbers, not in points or bytes. Vertices are numbered from 0 in the list's order. Edge i goes from
- * vertex i to the next one, the last edge back to vertex 0.
- * runs[0] is the outline's number of vertices (0: no outline); runs[1 + d] is where district d's ring begins in the store, counted in
- * vertices, and runs[65 + d] how many vertices it has (0: the number is unused). Read them; only the calls should write them.
+ * A register is five lists that the caller keeps: the outline's vertices in two columns, all x and all y, the store with the rings of all districts in two
+ * more, and the runs. struct launchramp_register has them all; zeros are an empty register. The calls whose names end in _in take that struct. The others
+ * take each list with its length, wherever it stands: ox and oy are the outline's columns, sx and sy the store's.
+ * Rings and paths that are handed over are lists x, y, x, y, ..; coordinates are whole millimetres. A list's length is told in numbers, not in points or
+ * bytes. Vertices are numbered from 0 in the list's order. Edge i goes from vertex i to the next one, the last edge back to vertex 0.
+ * runs[0] is the outline's number of vertices (0: no outline); runs[1 + d] is the place in both columns of the store where district d's ring begins, and
+ * runs[65 + d] how many vertices it has (0: the number is unused). Read the lists; only the calls should write them.
  * Every call takes every input: lists of any length and content, any number, NaNs too. What the rules refuse is answered
  * LAUNCHRAMP_REFUSED, and a refused call changes no list and no count. Lists that one call is lent must not overlap where one of them is changed.
  * A pointer must not be null, not even where its length is 0: the compiled code may take that for granted. An empty path is any pointer with length 0.
@@ -42,11 +43,20 @@ extern "C" {
 #endif
 
 /* The version of the library that this header is of. */
-#define LAUNCHRAMP_VERSION "0.4.0"
+#define LAUNCHRAMP_VERSION "0.5.0"
 
-#define LAUNCHRAMP_OUTLINE_LENGTH 4096
-#define LAUNCHRAMP_STORE_LENGTH 4096
+/* How long each of the four columns is, and how long the runs are. Lists of other lengths are refused by 1. */
+#define LAUNCHRAMP_COLUMN_LENGTH 2048
 #define LAUNCHRAMP_RUNS_LENGTH 129
+
+/* Vertex i of the outline is outline_x[i], outline_y[i]; vertex i of district d is store_x[p], store_y[p] with p = runs[1 + d] + i. */
+typedef struct launchramp_register {
+    int32_t outline_x[LAUNCHRAMP_COLUMN_LENGTH];
+    int32_t outline_y[LAUNCHRAMP_COLUMN_LENGTH];
+    int32_t store_x[LAUNCHRAMP_COLUMN_LENGTH];
+    int32_t store_y[LAUNCHRAMP_COLUMN_LENGTH];
+    uint32_t runs[LAUNCHRAMP_RUNS_LENGTH];
+} launchramp_register;
 
 /* A tally: 64 counts of One, one for each district number, then those of Border, None and Several. Zeros are a fresh tally. */
 #define LAUNCHRAMP_COUNTS 67
@@ -95,48 +105,114 @@ enum {
 uint32_t launchramp_locate(const int32_t *ring, size_t ring_length, int32_t x, int32_t y, uint64_t *values);
 
 /* Whether the lists are a well-formed register; every other call on a register asks this first and refuses by 1. */
-bool launchramp_well_formed(const int32_t *outline, size_t outline_length, const int32_t *store, size_t store_length,
+bool launchramp_well_formed(const int32_t *ox, size_t ox_length, const int32_t *oy, size_t oy_length,
+                            const int32_t *sx, size_t sx_length, const int32_t *sy, size_t sy_length,
                             const uint32_t *runs, size_t runs_length);
 
 /* Stores the outline, and makes district 0 with the same ring: DONE; refusals 1, 3, 4, 5. */
-uint32_t launchramp_found(int32_t *outline, size_t outline_length, int32_t *store, size_t store_length, uint32_t *runs,
-                          size_t runs_length, const int32_t *ring, size_t ring_length, uint64_t *values);
+uint32_t launchramp_found(int32_t *ox, size_t ox_length, int32_t *oy, size_t oy_length,
+                          int32_t *sx, size_t sx_length, int32_t *sy, size_t sy_length,
+                          uint32_t *runs, size_t runs_length, const int32_t *ring, size_t ring_length, uint64_t *values);
 
 /* Splits district d from its vertex i to its vertex j along a path: DONE; refusals 1, 2, 6, 8, 4 (a path of odd length), 5, 9, 11, 12. The piece from i
  * forward to j and back along the path keeps number d; the piece from j forward to i and on along the path takes the lowest unused number. */
-uint32_t launchramp_split(const int32_t *outline, size_t outline_length, int32_t *store, size_t store_length, uint32_t *runs,
-                          size_t runs_length, size_t d, size_t i, size_t j, const int32_t *path, size_t path_length,
+uint32_t launchramp_split(const int32_t *ox, size_t ox_length, const int32_t *oy, size_t oy_length,
+                          int32_t *sx, size_t sx_length, int32_t *sy, size_t sy_length,
+                          uint32_t *runs, size_t runs_length, size_t d, size_t i, size_t j, const int32_t *path, size_t path_length,
                           uint64_t *values);
 
 /* Merges district `gone` into district `kept` along k edges: DONE; refusals 1, 2, 6, 7, 8, 10, 9. The border is kept's vertices a, a+1, .., a+k and
  * gone's vertices b, b-1, .., b-k: as both rings go round the same way, gone's runs backward. */
-uint32_t launchramp_merge(const int32_t *outline, size_t outline_length, int32_t *store, size_t store_length, uint32_t *runs,
-                          size_t runs_length, size_t kept, size_t a, size_t gone, size_t b, size_t k, uint64_t *values);
+uint32_t launchramp_merge(const int32_t *ox, size_t ox_length, const int32_t *oy, size_t oy_length,
+                          int32_t *sx, size_t sx_length, int32_t *sy, size_t sy_length,
+                          uint32_t *runs, size_t runs_length, size_t kept, size_t a, size_t gone, size_t b, size_t k, uint64_t *values);
 
 /* Sorts a report at a point: BORDER, ONE, NONE, SEVERAL; refusals 1, 2, 5. */
-uint32_t launchramp_assign(const int32_t *outline, size_t outline_length, const int32_t *store, size_t store_length,
+uint32_t launchramp_assign(const int32_t *ox, size_t ox_length, const int32_t *oy, size_t oy_length,
+                           const int32_t *sx, size_t sx_length, const int32_t *sy, size_t sy_length,
                            const uint32_t *runs, size_t runs_length, int32_t x, int32_t y, uint64_t *values);
 
 /* The same, and raises its count in a tally of LAUNCHRAMP_COUNTS counts: refusal 14 too, where the count is full. */
-uint32_t launchramp_assign_counted(const int32_t *outline, size_t outline_length, const int32_t *store, size_t store_length,
-                                   const uint32_t *runs, size_t runs_length, int32_t x, int32_t y, uint32_t *counts,
-                                   uint64_t *values);
+uint32_t launchramp_assign_counted(const int32_t *ox, size_t ox_length, const int32_t *oy, size_t oy_length,
+                                   const int32_t *sx, size_t sx_length, const int32_t *sy, size_t sy_length,
+                                   const uint32_t *runs, size_t runs_length, int32_t x, int32_t y, uint32_t *counts, uint64_t *values);
 
 /* Writes the millimetres x, y of a fix to `point`, which has two places: DONE; refusals 18, 5, and then `point` stays as it was. */
 uint32_t launchramp_millimetres(double easting, double northing, int32_t *point, uint64_t *values);
 
 /* Sorts a report by a receiver's fix: BORDER, ONE, NONE, SEVERAL; refusals 1, 2, 18, 5. */
-uint32_t launchramp_assign_fix(const int32_t *outline, size_t outline_length, const int32_t *store, size_t store_length,
+uint32_t launchramp_assign_fix(const int32_t *ox, size_t ox_length, const int32_t *oy, size_t oy_length,
+                               const int32_t *sx, size_t sx_length, const int32_t *sy, size_t sy_length,
                                const uint32_t *runs, size_t runs_length, double easting, double northing, uint64_t *values);
 
 /* The same, and raises its count in a tally of LAUNCHRAMP_COUNTS counts: refusal 14 too, where the count is full. */
-uint32_t launchramp_assign_fix_counted(const int32_t *outline, size_t outline_length, const int32_t *store, size_t store_length,
+uint32_t launchramp_assign_fix_counted(const int32_t *ox, size_t ox_length, const int32_t *oy, size_t oy_length,
+                                       const int32_t *sx, size_t sx_length, const int32_t *sy, size_t sy_length,
                                        const uint32_t *runs, size_t runs_length, double easting, double northing, uint32_t *counts,
                                        uint64_t *values);
 
 /* Refuses a report whose position is missing: refusals 1, 2, 19. A tally would count nothing. */
-uint32_t launchramp_assign_missing(const int32_t *outline, size_t outline_length, const int32_t *store, size_t store_length,
+uint32_t launchramp_assign_missing(const int32_t *ox, size_t ox_length, const int32_t *oy, size_t oy_length,
+                                   const int32_t *sx, size_t sx_length, const int32_t *sy, size_t sy_length,
                                    const uint32_t *runs, size_t runs_length, uint64_t *values);
+
+/* The same calls on a register in one struct. */
+
+#define LAUNCHRAMP_LISTS(r)                                                             \
+    (r)->outline_x, LAUNCHRAMP_COLUMN_LENGTH, (r)->outline_y, LAUNCHRAMP_COLUMN_LENGTH, \
+    (r)->store_x, LAUNCHRAMP_COLUMN_LENGTH, (r)->store_y, LAUNCHRAMP_COLUMN_LENGTH,     \
+    (r)->runs, LAUNCHRAMP_RUNS_LENGTH
+
+static inline bool launchramp_well_formed_in(const launchramp_register *r)
+{
+    return launchramp_well_formed(LAUNCHRAMP_LISTS(r));
+}
+
+static inline uint32_t launchramp_found_in(launchramp_register *r, const int32_t *ring, size_t ring_length, uint64_t *values)
+{
+    return launchramp_found(LAUNCHRAMP_LISTS(r), ring, ring_length, values);
+}
+
+static inline uint32_t launchramp_split_in(launchramp_register *r, size_t d, size_t i, size_t j, const int32_t *path,
+                                           size_t path_length, uint64_t *values)
+{
+    return launchramp_split(LAUNCHRAMP_LISTS(r), d, i, j, path, path_length, values);
+}
+
+static inline uint32_t launchramp_merge_in(launchramp_register *r, size_t kept, size_t a, size_t gone, size_t b, size_t k,
+                                           uint64_t *values)
+{
+    return launchramp_merge(LAUNCHRAMP_LISTS(r), kept, a, gone, b, k, values);
+}
+
+static inline uint32_t launchramp_assign_in(const launchramp_register *r, int32_t x, int32_t y, uint64_t *values)
+{
+    return launchramp_assign(LAUNCHRAMP_LISTS(r), x, y, values);
+}
+
+static inline uint32_t launchramp_assign_counted_in(const launchramp_register *r, int32_t x, int32_t y, uint32_t *counts,
+                                                    uint64_t *values)
+{
+    return launchramp_assign_counted(LAUNCHRAMP_LISTS(r), x, y, counts, values);
+}
+
+static inline uint32_t launchramp_assign_fix_in(const launchramp_register *r, double easting, double northing, uint64_t *values)
+{
+    return launchramp_assign_fix(LAUNCHRAMP_LISTS(r), easting, northing, values);
+}
+
+static inline uint32_t launchramp_assign_fix_counted_in(const launchramp_register *r, double easting, double northing,
+                                                        uint32_t *counts, uint64_t *values)
+{
+    return launchramp_assign_fix_counted(LAUNCHRAMP_LISTS(r), easting, northing, counts, values);
+}
+
+static inline uint32_t launchramp_assign_missing_in(const launchramp_register *r, uint64_t *values)
+{
+    return launchramp_assign_missing(LAUNCHRAMP_LISTS(r), values);
+}
+
+#undef LAUNCHRAMP_LISTS
 
 #ifdef __cplusplus
 }

@@ -1,9 +1,12 @@
-//! The calls of include/launchramp.h, taking slices. All `unsafe` of the crate is in this file.
+//! The calls of include/launchramp.h, taking slices and the lists of a register. All `unsafe` of the
+//! crate is in this file.
 //!
 //! The library is proved to take every input: any numbers, and lists of any length and content. It
 //! reads and writes only within the lengths that it is told, and keeps no pointer. What the header
 //! asks of its caller, slices give by themselves: a pointer that isn't null even for an empty list,
 //! the list's own length and, for a list lent by `&mut`, that no other lent list overlaps it.
+
+use crate::Lists;
 
 /// The kinds of answers.
 pub const REFUSED: u32 = 0;
@@ -45,19 +48,27 @@ mod c {
         ) -> u32;
 
         pub fn launchramp_well_formed(
-            outline: *const i32,
-            outline_length: usize,
-            store: *const i32,
-            store_length: usize,
+            ox: *const i32,
+            ox_length: usize,
+            oy: *const i32,
+            oy_length: usize,
+            sx: *const i32,
+            sx_length: usize,
+            sy: *const i32,
+            sy_length: usize,
             runs: *const u32,
             runs_length: usize,
         ) -> bool;
 
         pub fn launchramp_found(
-            outline: *mut i32,
-            outline_length: usize,
-            store: *mut i32,
-            store_length: usize,
+            ox: *mut i32,
+            ox_length: usize,
+            oy: *mut i32,
+            oy_length: usize,
+            sx: *mut i32,
+            sx_length: usize,
+            sy: *mut i32,
+            sy_length: usize,
             runs: *mut u32,
             runs_length: usize,
             ring: *const i32,
@@ -66,10 +77,14 @@ mod c {
         ) -> u32;
 
         pub fn launchramp_split(
-            outline: *const i32,
-            outline_length: usize,
-            store: *mut i32,
-            store_length: usize,
+            ox: *const i32,
+            ox_length: usize,
+            oy: *const i32,
+            oy_length: usize,
+            sx: *mut i32,
+            sx_length: usize,
+            sy: *mut i32,
+            sy_length: usize,
             runs: *mut u32,
             runs_length: usize,
             d: usize,
@@ -81,10 +96,14 @@ mod c {
         ) -> u32;
 
         pub fn launchramp_merge(
-            outline: *const i32,
-            outline_length: usize,
-            store: *mut i32,
-            store_length: usize,
+            ox: *const i32,
+            ox_length: usize,
+            oy: *const i32,
+            oy_length: usize,
+            sx: *mut i32,
+            sx_length: usize,
+            sy: *mut i32,
+            sy_length: usize,
             runs: *mut u32,
             runs_length: usize,
             kept: usize,
@@ -96,10 +115,14 @@ mod c {
         ) -> u32;
 
         pub fn launchramp_assign(
-            outline: *const i32,
-            outline_length: usize,
-            store: *const i32,
-            store_length: usize,
+            ox: *const i32,
+            ox_length: usize,
+            oy: *const i32,
+            oy_length: usize,
+            sx: *const i32,
+            sx_length: usize,
+            sy: *const i32,
+            sy_length: usize,
             runs: *const u32,
             runs_length: usize,
             x: i32,
@@ -108,10 +131,14 @@ mod c {
         ) -> u32;
 
         pub fn launchramp_assign_counted(
-            outline: *const i32,
-            outline_length: usize,
-            store: *const i32,
-            store_length: usize,
+            ox: *const i32,
+            ox_length: usize,
+            oy: *const i32,
+            oy_length: usize,
+            sx: *const i32,
+            sx_length: usize,
+            sy: *const i32,
+            sy_length: usize,
             runs: *const u32,
             runs_length: usize,
             x: i32,
@@ -128,10 +155,14 @@ mod c {
         ) -> u32;
 
         pub fn launchramp_assign_fix(
-            outline: *const i32,
-            outline_length: usize,
-            store: *const i32,
-            store_length: usize,
+            ox: *const i32,
+            ox_length: usize,
+            oy: *const i32,
+            oy_length: usize,
+            sx: *const i32,
+            sx_length: usize,
+            sy: *const i32,
+            sy_length: usize,
             runs: *const u32,
             runs_length: usize,
             easting: f64,
@@ -140,10 +171,14 @@ mod c {
         ) -> u32;
 
         pub fn launchramp_assign_fix_counted(
-            outline: *const i32,
-            outline_length: usize,
-            store: *const i32,
-            store_length: usize,
+            ox: *const i32,
+            ox_length: usize,
+            oy: *const i32,
+            oy_length: usize,
+            sx: *const i32,
+            sx_length: usize,
+            sy: *const i32,
+            sy_length: usize,
             runs: *const u32,
             runs_length: usize,
             easting: f64,
@@ -153,15 +188,38 @@ mod c {
         ) -> u32;
 
         pub fn launchramp_assign_missing(
-            outline: *const i32,
-            outline_length: usize,
-            store: *const i32,
-            store_length: usize,
+            ox: *const i32,
+            ox_length: usize,
+            oy: *const i32,
+            oy_length: usize,
+            sx: *const i32,
+            sx_length: usize,
+            sy: *const i32,
+            sy_length: usize,
             runs: *const u32,
             runs_length: usize,
             values: *mut u64,
         ) -> u32;
     }
+}
+
+/// The call, lent each list by its pointer and its own length, and then the other arguments.
+macro_rules! lend {
+    ($lists:ident.$pointer:ident, $call:ident $(, $argument:expr)*) => {
+        c::$call(
+            $lists.outline_x.$pointer(),
+            $lists.outline_x.len(),
+            $lists.outline_y.$pointer(),
+            $lists.outline_y.len(),
+            $lists.store_x.$pointer(),
+            $lists.store_x.len(),
+            $lists.store_y.$pointer(),
+            $lists.store_y.len(),
+            $lists.runs.$pointer(),
+            $lists.runs.len()
+            $(, $argument)*
+        )
+    };
 }
 
 pub fn locate(ring: &[i32], x: i32, y: i32) -> Answer {
@@ -173,75 +231,47 @@ pub fn locate(ring: &[i32], x: i32, y: i32) -> Answer {
     Answer { kind, values }
 }
 
-pub fn well_formed(outline: &[i32], store: &[i32], runs: &[u32]) -> bool {
+pub fn well_formed(lists: &Lists) -> bool {
     // SAFETY: each list goes with its own length; nothing is written. C's `bool` is Rust's.
-    unsafe {
-        c::launchramp_well_formed(
-            outline.as_ptr(),
-            outline.len(),
-            store.as_ptr(),
-            store.len(),
-            runs.as_ptr(),
-            runs.len(),
-        )
-    }
+    unsafe { lend!(lists.as_ptr, launchramp_well_formed) }
 }
 
-pub fn found(outline: &mut [i32], store: &mut [i32], runs: &mut [u32], ring: &[i32]) -> Answer {
+pub fn found(lists: &mut Lists, ring: &[i32]) -> Answer {
     let mut values = [0; VALUES];
-    // SAFETY: each list goes with its own length. The three that are written are lent by `&mut`, so
+    // SAFETY: each list goes with its own length. The five that are written are lent by `&mut`, so
     // neither `ring` nor one another overlaps them; `values` is as in `locate`.
     let kind = unsafe {
-        c::launchramp_found(
-            outline.as_mut_ptr(),
-            outline.len(),
-            store.as_mut_ptr(),
-            store.len(),
-            runs.as_mut_ptr(),
-            runs.len(),
+        lend!(
+            lists.as_mut_ptr,
+            launchramp_found,
             ring.as_ptr(),
             ring.len(),
-            values.as_mut_ptr(),
+            values.as_mut_ptr()
         )
     };
     Answer { kind, values }
 }
 
-pub fn split(
-    outline: &[i32],
-    store: &mut [i32],
-    runs: &mut [u32],
-    d: usize,
-    i: usize,
-    j: usize,
-    path: &[i32],
-) -> Answer {
+pub fn split(lists: &mut Lists, d: usize, i: usize, j: usize, path: &[i32]) -> Answer {
     let mut values = [0; VALUES];
-    // SAFETY: each list goes with its own length. `store` and `runs`, which are written, are lent by
-    // `&mut`, so no other list overlaps them; `values` is as in `locate`.
+    // SAFETY: as in `found`, with a path; the outline's columns are only read.
     let kind = unsafe {
-        c::launchramp_split(
-            outline.as_ptr(),
-            outline.len(),
-            store.as_mut_ptr(),
-            store.len(),
-            runs.as_mut_ptr(),
-            runs.len(),
+        lend!(
+            lists.as_mut_ptr,
+            launchramp_split,
             d,
             i,
             j,
             path.as_ptr(),
             path.len(),
-            values.as_mut_ptr(),
+            values.as_mut_ptr()
         )
     };
     Answer { kind, values }
 }
 
 pub fn merge(
-    outline: &[i32],
-    store: &mut [i32],
-    runs: &mut [u32],
+    lists: &mut Lists,
     (kept, a): (usize, usize),
     (gone, b): (usize, usize),
     k: usize,
@@ -249,66 +279,39 @@ pub fn merge(
     let mut values = [0; VALUES];
     // SAFETY: as in `split`, without a path.
     let kind = unsafe {
-        c::launchramp_merge(
-            outline.as_ptr(),
-            outline.len(),
-            store.as_mut_ptr(),
-            store.len(),
-            runs.as_mut_ptr(),
-            runs.len(),
+        lend!(
+            lists.as_mut_ptr,
+            launchramp_merge,
             kept,
             a,
             gone,
             b,
             k,
-            values.as_mut_ptr(),
+            values.as_mut_ptr()
         )
     };
     Answer { kind, values }
 }
 
-pub fn assign(outline: &[i32], store: &[i32], runs: &[u32], x: i32, y: i32) -> Answer {
+pub fn assign(lists: &Lists, x: i32, y: i32) -> Answer {
     let mut values = [0; VALUES];
     // SAFETY: each list goes with its own length and is only read; `values` is as in `locate`.
-    let kind = unsafe {
-        c::launchramp_assign(
-            outline.as_ptr(),
-            outline.len(),
-            store.as_ptr(),
-            store.len(),
-            runs.as_ptr(),
-            runs.len(),
-            x,
-            y,
-            values.as_mut_ptr(),
-        )
-    };
+    let kind = unsafe { lend!(lists.as_ptr, launchramp_assign, x, y, values.as_mut_ptr()) };
     Answer { kind, values }
 }
 
-pub fn assign_counted(
-    outline: &[i32],
-    store: &[i32],
-    runs: &[u32],
-    x: i32,
-    y: i32,
-    counts: &mut [u32; COUNTS],
-) -> Answer {
+pub fn assign_counted(lists: &Lists, x: i32, y: i32, counts: &mut [u32; COUNTS]) -> Answer {
     let mut values = [0; VALUES];
     // SAFETY: as in `assign`; `counts` has the COUNTS numbers that the library takes it to have, and
     // is lent by `&mut`, so no other list overlaps it.
     let kind = unsafe {
-        c::launchramp_assign_counted(
-            outline.as_ptr(),
-            outline.len(),
-            store.as_ptr(),
-            store.len(),
-            runs.as_ptr(),
-            runs.len(),
+        lend!(
+            lists.as_ptr,
+            launchramp_assign_counted,
             x,
             y,
             counts.as_mut_ptr(),
-            values.as_mut_ptr(),
+            values.as_mut_ptr()
         )
     };
     Answer { kind, values }
@@ -326,35 +329,23 @@ pub fn millimetres(easting: f64, northing: f64) -> (Answer, [i32; 2]) {
     (Answer { kind, values }, point)
 }
 
-pub fn assign_fix(
-    outline: &[i32],
-    store: &[i32],
-    runs: &[u32],
-    easting: f64,
-    northing: f64,
-) -> Answer {
+pub fn assign_fix(lists: &Lists, easting: f64, northing: f64) -> Answer {
     let mut values = [0; VALUES];
     // SAFETY: as in `assign`.
     let kind = unsafe {
-        c::launchramp_assign_fix(
-            outline.as_ptr(),
-            outline.len(),
-            store.as_ptr(),
-            store.len(),
-            runs.as_ptr(),
-            runs.len(),
+        lend!(
+            lists.as_ptr,
+            launchramp_assign_fix,
             easting,
             northing,
-            values.as_mut_ptr(),
+            values.as_mut_ptr()
         )
     };
     Answer { kind, values }
 }
 
 pub fn assign_fix_counted(
-    outline: &[i32],
-    store: &[i32],
-    runs: &[u32],
+    lists: &Lists,
     easting: f64,
     northing: f64,
     counts: &mut [u32; COUNTS],
@@ -362,35 +353,21 @@ pub fn assign_fix_counted(
     let mut values = [0; VALUES];
     // SAFETY: as in `assign_counted`.
     let kind = unsafe {
-        c::launchramp_assign_fix_counted(
-            outline.as_ptr(),
-            outline.len(),
-            store.as_ptr(),
-            store.len(),
-            runs.as_ptr(),
-            runs.len(),
+        lend!(
+            lists.as_ptr,
+            launchramp_assign_fix_counted,
             easting,
             northing,
             counts.as_mut_ptr(),
-            values.as_mut_ptr(),
+            values.as_mut_ptr()
         )
     };
     Answer { kind, values }
 }
 
-pub fn assign_missing(outline: &[i32], store: &[i32], runs: &[u32]) -> Answer {
+pub fn assign_missing(lists: &Lists) -> Answer {
     let mut values = [0; VALUES];
     // SAFETY: as in `assign`.
-    let kind = unsafe {
-        c::launchramp_assign_missing(
-            outline.as_ptr(),
-            outline.len(),
-            store.as_ptr(),
-            store.len(),
-            runs.as_ptr(),
-            runs.len(),
-            values.as_mut_ptr(),
-        )
-    };
+    let kind = unsafe { lend!(lists.as_ptr, launchramp_assign_missing, values.as_mut_ptr()) };
     Answer { kind, values }
 }

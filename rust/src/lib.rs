@@ -1,9 +1,10 @@
 //! Sorting fault reports into districts, exactly: a safe wrapper of the proved library
 //! liblaunchramp.a, whose rules docs/RULES.md tells.
 //!
-//! Coordinates are whole millimetres, -1,000,000,000 to 1,000,000,000. Rings and paths are lists
-//! x, y, x, y, .. A report's position may also be a receiver's fix, in metres. Every call takes every
-//! input; what the rules don't allow is answered by a [`Refusal`], and a refused call changes nothing.
+//! Coordinates are whole millimetres, -1,000,000,000 to 1,000,000,000. Rings and paths are handed
+//! over as lists x, y, x, y, ..; a register lends its own as two columns, all x and all y. A report's
+//! position may also be a receiver's fix, in metres. Every call takes every input; what the rules
+//! don't allow is answered by a [`Refusal`], and a refused call changes nothing.
 //!
 //! ```
 //! use launchramp::{Class, Position, Refusal, Register, Tally, Touch};
@@ -36,9 +37,8 @@ use std::fmt;
 /// District numbers go from 0 to 63.
 pub const NUMBERS: usize = 64;
 
-/// How long the three lists of a register are.
-pub const OUTLINE_LENGTH: usize = 4096;
-pub const STORE_LENGTH: usize = 4096;
+/// How long the lists of a register are: each of the four columns, and the runs.
+pub const COLUMN_LENGTH: usize = 2048;
 pub const RUNS_LENGTH: usize = 129;
 
 /// How many counts a tally has: one for each district number, then Border, None and Several.
@@ -104,48 +104,70 @@ pub fn locate(ring: &[i32], x: i32, y: i32) -> Result<Place, Refusal> {
     place(calls::locate(ring, x, y))
 }
 
+/// A ring as a register holds it: all x of its vertices, and all y.
+#[derive(Clone, Copy, Debug, PartialEq, Eq, Hash)]
+pub struct Ring<'a> {
+    pub x: &'a [i32],
+    pub y: &'a [i32],
+}
+
+impl Ring<'_> {
+    /// The list x, y, x, y, .. that [`locate`] and [`Register::found`] take.
+    pub fn list(&self) -> Vec<i32> {
+        let points = self.x.iter().zip(self.y);
+        points.flat_map(|(&x, &y)| [x, y]).collect()
+    }
+}
+
+/// The lists that hold a register: the vertices of the outline and of the store in two columns each,
+/// all x and all y, and the runs. The store has the rings of all districts.
+#[derive(Clone, Debug, PartialEq, Eq)]
+pub struct Lists {
+    pub outline_x: Vec<i32>,
+    pub outline_y: Vec<i32>,
+    pub store_x: Vec<i32>,
+    pub store_y: Vec<i32>,
+    pub runs: Vec<u32>,
+}
+
 /// An outline, and up to 64 districts inside it. Districts together have at most 2,048 vertices.
 #[derive(Clone)]
 pub struct Register {
-    outline: Vec<i32>,
-    store: Vec<i32>,
-    runs: Vec<u32>,
+    lists: Lists,
 }
 
 impl Register {
     /// A register without an outline.
     pub fn new() -> Register {
-        Register {
-            outline: vec![0; OUTLINE_LENGTH],
-            store: vec![0; STORE_LENGTH],
+        let column = vec![0; COLUMN_LENGTH];
+        Register::from_lists(Lists {
+            outline_x: column.clone(),
+            outline_y: column.clone(),
+            store_x: column.clone(),
+            store_y: column,
             runs: vec![0; RUNS_LENGTH],
-        }
+        })
     }
 
     /// A register from lists as [`Register::lists`] gave them. Any lists are taken; if they are
     /// damaged, every call is refused by NotWellFormed.
-    pub fn from_lists(outline: Vec<i32>, store: Vec<i32>, runs: Vec<u32>) -> Register {
-        Register {
-            outline,
-            store,
-            runs,
-        }
+    pub fn from_lists(lists: Lists) -> Register {
+        Register { lists }
     }
 
-    /// The lists that hold the register, for storing it: outline, store, runs.
-    pub fn lists(&self) -> (&[i32], &[i32], &[u32]) {
-        (&self.outline, &self.store, &self.runs)
+    /// The lists that hold the register, for storing it.
+    pub fn lists(&self) -> &Lists {
+        &self.lists
     }
 
     pub fn is_well_formed(&self) -> bool {
-        calls::well_formed(&self.outline, &self.store, &self.runs)
+        calls::well_formed(&self.lists)
     }
 
     /// Stores the outline, and makes district 0 with the same ring.
     /// Refusals: NotWellFormed, OutlineThere, NoRing, BeyondGrid.
     pub fn found(&mut self, ring: &[i32]) -> Result<(), Refusal> {
-        let answer = calls::found(&mut self.outline, &mut self.store, &mut self.runs, ring);
-        changed(answer).map(|_| ())
+        changed(calls::found(&mut self.lists, ring)).map(|_| ())
     }
 
     /// Splits district d from its vertex i to its vertex j along a path, which may be empty, and
@@ -153,15 +175,7 @@ impl Register {
     /// Refusals: NotWellFormed, NoOutline, BadNumber, BadIndex, NoRing (a path of odd length),
     /// BeyondGrid, TooFew, NumbersInUse, NoRoom.
     pub fn split(&mut self, d: usize, i: usize, j: usize, path: &[i32]) -> Result<usize, Refusal> {
-        changed(calls::split(
-            &self.outline,
-            &mut self.store,
-            &mut self.runs,
-            d,
-            i,
-            j,
-            path,
-        ))
+        changed(calls::split(&mut self.lists, d, i, j, path))
     }
 
     /// Merges district `gone` into district `kept`, and answers `kept`. They share k edges: from its
@@ -173,14 +187,7 @@ impl Register {
         (gone, b): (usize, usize),
         k: usize,
     ) -> Result<usize, Refusal> {
-        changed(calls::merge(
-            &self.outline,
-            &mut self.store,
-            &mut self.runs,
-            (kept, a),
-            (gone, b),
-            k,
-        ))
+        changed(calls::merge(&mut self.lists, (kept, a), (gone, b), k))
     }
 
     /// Where a report at (x, y) belongs. Refusals: NotWellFormed, NoOutline, BeyondGrid.
@@ -196,13 +203,11 @@ impl Register {
     /// Where a report with this position belongs.
     /// Refusals: NotWellFormed, NoOutline, Missing, NotFinite, BeyondGrid.
     pub fn assign_at(&self, position: Position) -> Result<Class, Refusal> {
-        let (outline, store, runs) = self.lists();
+        let lists = &self.lists;
         class(match position {
-            Position::Grid { x, y } => calls::assign(outline, store, runs, x, y),
-            Position::Fix { easting, northing } => {
-                calls::assign_fix(outline, store, runs, easting, northing)
-            }
-            Position::Missing => calls::assign_missing(outline, store, runs),
+            Position::Grid { x, y } => calls::assign(lists, x, y),
+            Position::Fix { easting, northing } => calls::assign_fix(lists, easting, northing),
+            Position::Missing => calls::assign_missing(lists),
         })
     }
 
@@ -212,28 +217,31 @@ impl Register {
         position: Position,
         tally: &mut Tally,
     ) -> Result<Class, Refusal> {
-        let (outline, store, runs) = self.lists();
+        let lists = &self.lists;
         let counts = &mut tally.counts;
         class(match position {
-            Position::Grid { x, y } => calls::assign_counted(outline, store, runs, x, y, counts),
+            Position::Grid { x, y } => calls::assign_counted(lists, x, y, counts),
             Position::Fix { easting, northing } => {
-                calls::assign_fix_counted(outline, store, runs, easting, northing, counts)
+                calls::assign_fix_counted(lists, easting, northing, counts)
             }
-            Position::Missing => calls::assign_missing(outline, store, runs),
+            Position::Missing => calls::assign_missing(lists),
         })
     }
 
     /// The outline's ring, if there is one.
-    pub fn outline(&self) -> Option<&[i32]> {
-        ring(&self.outline, 0, *self.runs.first()?)
+    pub fn outline(&self) -> Option<Ring<'_>> {
+        let lists = &self.lists;
+        ring(&lists.outline_x, &lists.outline_y, 0, *lists.runs.first()?)
     }
 
     /// The ring of district d, if the number is in use.
-    pub fn district(&self, d: usize) -> Option<&[i32]> {
+    pub fn district(&self, d: usize) -> Option<Ring<'_>> {
+        let lists = &self.lists;
         // Runs are the outline's number of vertices, the first places of all 64 numbers in the store,
         // then their numbers of vertices (crates/districts/specs/Lists.antt).
-        let (places, sizes) = self.runs.get(1..RUNS_LENGTH)?.split_at(NUMBERS);
-        ring(&self.store, *places.get(d)?, *sizes.get(d)?)
+        let (places, sizes) = lists.runs.get(1..RUNS_LENGTH)?.split_at(NUMBERS);
+        let (place, n) = (*places.get(d)?, *sizes.get(d)?);
+        ring(&lists.store_x, &lists.store_y, place, n)
     }
 }
 
@@ -322,14 +330,17 @@ impl Default for Tally {
     }
 }
 
-/// The ring of n vertices from a place of the list on. No vertices are no ring, and so is a run that
-/// leaves the list, which only a damaged register has.
-fn ring(list: &[i32], place: u32, n: u32) -> Option<&[i32]> {
-    let (start, length) = (2 * place as usize, 2 * n as usize);
-    if length == 0 {
+/// The ring of n vertices from a place of both columns on. No vertices are no ring, and so is a run
+/// that leaves a column, which only a damaged register has.
+fn ring<'a>(xs: &'a [i32], ys: &'a [i32], place: u32, n: u32) -> Option<Ring<'a>> {
+    let run = place as usize..place as usize + n as usize;
+    if run.is_empty() {
         return None;
     }
-    list.get(start..start + length)
+    Some(Ring {
+        x: xs.get(run.clone())?,
+        y: ys.get(run)?,
+    })
 }
 
 fn place(Answer { kind, values }: Answer) -> Result<Place, Refusal> {

@@ -1,6 +1,6 @@
 //! The known points, the README's listing, every refusal, the tally at its limit, and known fixes.
-use launchramp::{locate, millimetres, Class, Place, Position, Refusal, Register, Tally, Touch};
-use launchramp::{COUNTS, NUMBERS, OUTLINE_LENGTH, RUNS_LENGTH, STORE_LENGTH};
+use launchramp::{locate, millimetres, Class, Lists, Place, Position, Refusal, Register, Ring};
+use launchramp::{Tally, Touch, COLUMN_LENGTH, COUNTS, NUMBERS, RUNS_LENGTH};
 
 const LIMIT: i32 = 1_000_000_000;
 const BEYOND: i32 = LIMIT + 1;
@@ -19,6 +19,11 @@ fn founded() -> Register {
     let mut register = Register::new();
     register.found(S).unwrap();
     register
+}
+
+/// District d's ring as a list x, y, x, y, ..
+fn district(register: &Register, d: usize) -> Vec<i32> {
+    register.district(d).unwrap().list()
 }
 
 fn vertex(lowest: usize, highest: usize) -> Touch {
@@ -109,11 +114,11 @@ fn locating_refuses() {
 fn known_split() {
     let mut register = founded();
     assert_eq!(register.split(0, 0, 1, &[2, 9]), Ok(1));
-    let (kept, new) = (register.district(0).unwrap(), register.district(1).unwrap());
+    let (kept, new) = (district(&register, 0), district(&register, 1));
     assert_eq!(kept, [0, 0, 4, 0, 2, 9]);
     assert_eq!(new, [4, 0, 4, 4, 0, 4, 0, 0, 2, 9]);
-    assert_eq!(locate(kept, 2, 6), Ok(Place::Off(1)));
-    assert_eq!(locate(new, 2, 6), Ok(Place::Off(-1)));
+    assert_eq!(locate(&kept, 2, 6), Ok(Place::Off(1)));
+    assert_eq!(locate(&new, 2, 6), Ok(Place::Off(-1)));
     assert_eq!(
         register.assign(2, 6),
         Ok(Class::Several {
@@ -122,7 +127,7 @@ fn known_split() {
         })
     );
     assert_eq!(register.assign(2, 2), Ok(Class::One(0)));
-    assert_eq!(register.outline(), Some(S));
+    assert_eq!(register.outline().unwrap().list(), S);
 }
 
 #[test]
@@ -165,16 +170,16 @@ fn a_shared_border_as_the_lower_district_has_it() {
     let mut register = Register::new();
     register.found(DOUBLED_CORNER).unwrap();
     register.split(0, 2, 4, &[]).unwrap();
-    assert_eq!(register.district(0), Some(&[4, 0, 4, 4, 0, 4][..]));
-    assert_eq!(register.district(1), Some(&[0, 4, 0, 0, 4, 0, 4, 0][..]));
+    assert_eq!(district(&register, 0), [4, 0, 4, 4, 0, 4]);
+    assert_eq!(district(&register, 1), [0, 4, 0, 0, 4, 0, 4, 0]);
     // Edge 3 and vertices 2 and 3 of district 1.
     assert_eq!(register.assign(2, 2), Ok(border(0, edge(2, 2))));
     assert_eq!(register.assign(4, 0), Ok(border(0, vertex(0, 0))));
     // The number 0 goes, and comes back with the piece that has the doubled corner.
     register.merge((1, 3), (0, 0), 1).unwrap();
     register.split(1, 0, 2, &[]).unwrap();
-    assert_eq!(register.district(0), Some(&[4, 0, 4, 0, 4, 4, 0, 4][..]));
-    assert_eq!(register.district(1), Some(&[0, 4, 0, 0, 4, 0][..]));
+    assert_eq!(district(&register, 0), [4, 0, 4, 0, 4, 4, 0, 4]);
+    assert_eq!(district(&register, 1), [0, 4, 0, 0, 4, 0]);
     // Edge 2 and vertex 2 of district 1.
     assert_eq!(register.assign(2, 2), Ok(border(0, edge(3, 3))));
     assert_eq!(register.assign(4, 0), Ok(border(0, vertex(0, 1))));
@@ -185,16 +190,20 @@ fn what_a_register_holds() {
     let mut register = Register::new();
     assert_eq!((register.outline(), register.district(0)), (None, None));
     register.found(S).unwrap();
+    let square = Ring {
+        x: &[0, 4, 4, 0],
+        y: &[0, 0, 4, 4],
+    };
     assert_eq!(
         (register.outline(), register.district(0)),
-        (Some(S), Some(S))
+        (Some(square), Some(square))
     );
     register.split(0, 0, 2, &[]).unwrap();
-    assert_eq!(register.district(0), Some(&[0, 0, 4, 0, 4, 4][..]));
-    assert_eq!(register.district(1), Some(&[4, 4, 0, 4, 0, 0][..]));
+    assert_eq!(district(&register, 0), [0, 0, 4, 0, 4, 4]);
+    assert_eq!(district(&register, 1), [4, 4, 0, 4, 0, 0]);
     register.merge((1, 2), (0, 0), 1).unwrap();
     assert_eq!(register.district(0), None);
-    assert_eq!(register.district(1), Some(&[4, 4, 0, 4, 0, 0, 4, 0][..]));
+    assert_eq!(district(&register, 1), [4, 4, 0, 4, 0, 0, 4, 0]);
     assert_eq!((register.district(63), register.district(64)), (None, None));
     assert_eq!(register.district(usize::MAX), None);
 }
@@ -203,11 +212,21 @@ fn what_a_register_holds() {
 fn a_register_stored_and_read_again() {
     let mut register = founded();
     register.split(0, 0, 2, &[]).unwrap();
-    let (outline, store, runs) = register.lists();
-    let again = Register::from_lists(outline.to_vec(), store.to_vec(), runs.to_vec());
+    let again = Register::from_lists(register.lists().clone());
     assert!(again.is_well_formed());
     assert_eq!(again.district(1), register.district(1));
     assert_eq!(again.assign(1, 3), Ok(Class::One(1)));
+}
+
+/// Lists of length 0, which are no register.
+fn no_lists() -> Lists {
+    Lists {
+        outline_x: vec![],
+        outline_y: vec![],
+        store_x: vec![],
+        store_y: vec![],
+        runs: vec![],
+    }
 }
 
 /// The call is refused so, and leaves the register's lists as they were.
@@ -336,33 +355,48 @@ fn a_merge_that_leaves_too_few() {
 
 #[test]
 fn damaged_lists() {
-    fn with(change: impl Fn(&mut Vec<i32>, &mut Vec<i32>, &mut Vec<u32>)) -> Register {
+    fn with(change: impl Fn(&mut Lists)) -> Register {
         let mut register = founded();
         register.split(0, 0, 2, &[]).unwrap();
-        let (outline, store, runs) = register.lists();
-        let (mut outline, mut store, mut runs) = (outline.to_vec(), store.to_vec(), runs.to_vec());
-        change(&mut outline, &mut store, &mut runs);
-        Register::from_lists(outline, store, runs)
+        let mut lists = register.lists().clone();
+        change(&mut lists);
+        Register::from_lists(lists)
     }
     // Where the runs tell of the outline's size, and of district 1's first place and size.
     const OUTLINE: usize = 0;
     const PLACE: usize = 1 + 1;
     const SIZE: usize = 1 + NUMBERS + 1;
+    // The last vertex of the outline and of the store.
+    const LAST_OF_OUTLINE: usize = 3;
+    const LAST_OF_STORE: usize = 5;
     for mut register in [
-        Register::from_lists(vec![], vec![], vec![]),
-        with(|outline, _, _| outline.truncate(OUTLINE_LENGTH - 1)),
-        with(|_, store, _| store.push(0)),
-        with(|_, _, runs| runs.truncate(RUNS_LENGTH - 1)),
-        with(|_, _, runs| runs[OUTLINE] = 0),
-        with(|_, _, runs| runs[OUTLINE] = 2),
-        with(|_, _, runs| runs[OUTLINE] = u32::MAX),
-        with(|_, _, runs| runs[PLACE] -= 1),
-        with(|_, _, runs| runs[PLACE] += 1),
-        with(|_, _, runs| runs[PLACE] = u32::MAX),
-        with(|_, _, runs| runs[SIZE] = 2),
-        with(|_, _, runs| runs[SIZE] = u32::MAX),
-        with(|outline, _, _| outline[0] = BEYOND),
-        with(|_, store, _| store[0] = -BEYOND),
+        Register::from_lists(no_lists()),
+        with(|lists| lists.outline_x.truncate(COLUMN_LENGTH - 1)),
+        with(|lists| lists.outline_x.push(0)),
+        with(|lists| lists.outline_y.truncate(COLUMN_LENGTH - 1)),
+        with(|lists| lists.outline_y.push(0)),
+        with(|lists| lists.store_x.truncate(COLUMN_LENGTH - 1)),
+        with(|lists| lists.store_x.push(0)),
+        with(|lists| lists.store_y.truncate(COLUMN_LENGTH - 1)),
+        with(|lists| lists.store_y.push(0)),
+        with(|lists| lists.runs.truncate(RUNS_LENGTH - 1)),
+        with(|lists| lists.runs.push(0)),
+        with(|lists| lists.runs[OUTLINE] = 0),
+        with(|lists| lists.runs[OUTLINE] = 2),
+        with(|lists| lists.runs[OUTLINE] = u32::MAX),
+        with(|lists| lists.runs[PLACE] -= 1),
+        with(|lists| lists.runs[PLACE] += 1),
+        with(|lists| lists.runs[PLACE] = u32::MAX),
+        with(|lists| lists.runs[SIZE] = 2),
+        with(|lists| lists.runs[SIZE] = u32::MAX),
+        with(|lists| lists.outline_x[0] = BEYOND),
+        with(|lists| lists.outline_x[LAST_OF_OUTLINE] = -BEYOND),
+        with(|lists| lists.outline_y[0] = -BEYOND),
+        with(|lists| lists.outline_y[LAST_OF_OUTLINE] = BEYOND),
+        with(|lists| lists.store_x[0] = -BEYOND),
+        with(|lists| lists.store_x[LAST_OF_STORE] = BEYOND),
+        with(|lists| lists.store_y[0] = BEYOND),
+        with(|lists| lists.store_y[LAST_OF_STORE] = -BEYOND),
     ] {
         let mut tally = Tally::new();
         assert!(!register.is_well_formed());
@@ -389,8 +423,14 @@ fn damaged_lists() {
 
 #[test]
 fn free_room_has_no_meaning() {
-    let litter = vec![i32::MIN; STORE_LENGTH];
-    let mut register = Register::from_lists(litter.clone(), litter, vec![0; RUNS_LENGTH]);
+    let litter = || vec![i32::MIN; COLUMN_LENGTH];
+    let mut register = Register::from_lists(Lists {
+        outline_x: litter(),
+        outline_y: litter(),
+        store_x: litter(),
+        store_y: litter(),
+        runs: vec![0; RUNS_LENGTH],
+    });
     assert_eq!(register.found(S), Ok(()));
     assert_eq!(register.assign(2, 2), Ok(Class::One(0)));
 }
@@ -539,20 +579,29 @@ fn registers_are_compared_and_shown_by_their_districts() {
     split.found(&square).unwrap();
     split.split(0, 0, 2, &[]).unwrap();
     // The same districts again, with litter in the free room.
-    let (outline, store, runs) = split.lists();
-    let mut littered = store.to_vec();
-    littered[STORE_LENGTH - 1] = 7;
-    let same = Register::from_lists(outline.to_vec(), littered, runs.to_vec());
-    assert_eq!(split, same);
+    let mut littered = split.lists().clone();
+    for column in [
+        &mut littered.outline_x,
+        &mut littered.outline_y,
+        &mut littered.store_x,
+        &mut littered.store_y,
+    ] {
+        column[COLUMN_LENGTH - 1] = 7;
+    }
+    assert_eq!(split, Register::from_lists(littered));
     let mut whole = Register::new();
     whole.found(&square).unwrap();
     assert_ne!(split, whole);
     assert_eq!(
         format!("{:?}", whole),
-        "Register { outline: Some([0, 0, 4, 0, 4, 4, 0, 4]), districts: {0: [0, 0, 4, 0, 4, 4, 0, 4]} }"
+        "Register { outline: Some(Ring { x: [0, 4, 4, 0], y: [0, 0, 4, 4] }), \
+         districts: {0: Ring { x: [0, 4, 4, 0], y: [0, 0, 4, 4] }} }"
     );
-    let damaged = Register::from_lists(vec![], vec![], vec![9]);
+    let damaged = Register::from_lists(no_lists());
     assert_eq!(damaged, damaged.clone());
     assert_ne!(damaged, whole);
-    assert_eq!(format!("{:?}", damaged), "DamagedRegister(([], [], [9]))");
+    assert_eq!(
+        format!("{:?}", damaged),
+        "DamagedRegister(Lists { outline_x: [], outline_y: [], store_x: [], store_y: [], runs: [] })"
+    );
 }

@@ -3,7 +3,8 @@
 //! place on a ring must have been apart often enough.
 mod plain;
 
-use launchramp::{locate, millimetres, Class, Place, Position, Refusal, Register, Touch, NUMBERS};
+use launchramp::NUMBERS;
+use launchramp::{locate, millimetres, Class, Place, Position, Refusal, Register, Ring, Touch};
 use plain::{shared_edges, Point, Rows};
 use std::collections::{BTreeMap, BTreeSet};
 use std::fmt::Debug;
@@ -302,17 +303,15 @@ impl Life<'_> {
     }
 
     fn compare_rings(&self) {
-        let list = |ring: &[Point]| ring.iter().flat_map(|&(x, y)| [x, y]).collect::<Vec<i32>>();
+        let points = |ring: Ring| -> Vec<Point> {
+            let (xs, ys) = (ring.x.iter(), ring.y.iter());
+            xs.copied().zip(ys.copied()).collect()
+        };
         assert!(self.register.is_well_formed());
-        let outline = self.rows.outline.as_deref().map(list);
-        assert_eq!(self.register.outline(), outline.as_deref());
+        assert_eq!(self.register.outline().map(points), self.rows.outline);
         for d in 0..NUMBERS {
-            let district = self.rows.districts[d].as_deref().map(list);
-            assert_eq!(
-                self.register.district(d),
-                district.as_deref(),
-                "district {d}"
-            );
+            let district = self.register.district(d).map(points);
+            assert_eq!(district, self.rows.districts[d], "district {d}");
         }
     }
 }

@@ -279,15 +279,11 @@ static void bench_all_locating(void)
 
 /* ---- assigning ---- */
 
-struct lists {
-    int32_t outline[LAUNCHRAMP_OUTLINE_LENGTH];
-    int32_t store[LAUNCHRAMP_STORE_LENGTH];
-    uint32_t runs[LAUNCHRAMP_RUNS_LENGTH];
+/* A register, and the reports that are asked of it. */
+struct town {
+    launchramp_register held;
     int32_t x[POINTS], y[POINTS];
 };
-
-/* The arguments that every call on a register begins with. */
-#define LENT(l) (l)->outline, LAUNCHRAMP_OUTLINE_LENGTH, (l)->store, LAUNCHRAMP_STORE_LENGTH, (l)->runs, LAUNCHRAMP_RUNS_LENGTH
 
 static void accepted(uint32_t kind)
 {
@@ -315,7 +311,7 @@ static size_t make_path(int32_t *path, size_t t)
 }
 
 /* A vertex at the foot and the head of every border. */
-static void found_strips(struct lists *l)
+static void found_strips(launchramp_register *held)
 {
     int32_t ring[4 * (STRIPS + 1)];
     uint64_t values[LAUNCHRAMP_VALUES];
@@ -325,80 +321,91 @@ static void found_strips(struct lists *l)
         ring[2 * t + 1] = 0;
         ring[2 * (2 * posts - 1 - t) + 1] = STRIP_HEIGHT;
     }
-    accepted(launchramp_found(LENT(l), ring, 4 * posts, values));
+    accepted(launchramp_found_in(held, ring, 4 * posts, values));
 }
 
 /* Each split leaves what is right of border t to district 0, whose vertex 0 is the foot of border t - 1 before. */
-static void make_strips(struct lists *l)
+static void make_strips(launchramp_register *held)
 {
     int32_t path[2 * (PATH_POINTS + 1)];
     uint64_t values[LAUNCHRAMP_VALUES];
-    found_strips(l);
+    found_strips(held);
     for (size_t t = 1; t < STRIPS; t++) {
         size_t length = make_path(path, t), head = 2 * (STRIPS - t) + 2;
-        accepted(launchramp_split(LENT(l), 0, 1, head, path, length, values));
+        accepted(launchramp_split_in(held, 0, 1, head, path, length, values));
     }
 }
 
-static void make_halves(struct lists *l)
+static void make_halves(launchramp_register *held)
 {
     const int32_t height = STRIP_HEIGHT, width = STRIPS * STRIP_WIDTH;
     const int32_t square[] = {0, 0, width, 0, width, height, 0, height};
     uint64_t values[LAUNCHRAMP_VALUES];
-    accepted(launchramp_found(LENT(l), square, 8, values));
-    accepted(launchramp_split(LENT(l), 0, 0, 2, square, 0, values));
+    accepted(launchramp_found_in(held, square, 8, values));
+    accepted(launchramp_split_in(held, 0, 0, 2, square, 0, values));
+}
+
+/* One district, once round a middle. */
+static size_t one_size;
+
+static void make_one(launchramp_register *held)
+{
+    int32_t ring[2 * MOST_VERTICES];
+    uint64_t values[LAUNCHRAMP_VALUES];
+    make_round(ring, one_size, RANDOM);
+    accepted(launchramp_found_in(held, ring, 2 * one_size, values));
 }
 
 static void assign_all(const void *what)
 {
-    const struct lists *l = what;
+    const struct town *town = what;
     uint64_t values[LAUNCHRAMP_VALUES];
     for (size_t p = 0; p < POINTS; p++)
-        sink += launchramp_assign(LENT(l), l->x[p], l->y[p], values) + values[0];
+        sink += launchramp_assign_in(&town->held, town->x[p], town->y[p], values) + values[0];
 }
 
 static void count_all(const void *what)
 {
-    const struct lists *l = what;
+    const struct town *town = what;
     uint32_t counts[LAUNCHRAMP_COUNTS] = {0};
     uint64_t values[LAUNCHRAMP_VALUES];
     for (size_t p = 0; p < POINTS; p++)
-        sink += launchramp_assign_counted(LENT(l), l->x[p], l->y[p], counts, values) + values[0];
+        sink += launchramp_assign_counted_in(&town->held, town->x[p], town->y[p], counts, values) + values[0];
 }
 
 static void ask_all(const void *what)
 {
-    const struct lists *l = what;
+    const struct town *town = what;
     for (size_t p = 0; p < POINTS; p++)
-        sink += launchramp_well_formed(LENT(l));
+        sink += launchramp_well_formed_in(&town->held);
 }
 
 #define NUMBERS 64
 #define FIRST_SIZE 65
 
-static void count_used(const struct lists *l, size_t *districts, size_t *vertices)
+static void count_used(const launchramp_register *held, size_t *districts, size_t *vertices)
 {
     *districts = *vertices = 0;
     for (size_t d = 0; d < NUMBERS; d++) {
-        *districts += l->runs[FIRST_SIZE + d] > 0;
-        *vertices += l->runs[FIRST_SIZE + d];
+        *districts += held->runs[FIRST_SIZE + d] > 0;
+        *vertices += held->runs[FIRST_SIZE + d];
     }
 }
 
-static void bench_assigning(void (*make)(struct lists *l))
+static void bench_assigning(void (*make)(launchramp_register *held), int32_t west, int32_t south, int32_t east, int32_t north)
 {
-    static struct lists l;
+    static struct town town;
     size_t districts, vertices;
-    struct work works[] = {{assign_all, &l, POINTS}, {count_all, &l, POINTS}, {ask_all, &l, POINTS}};
+    struct work works[] = {{assign_all, &town, POINTS}, {count_all, &town, POINTS}, {ask_all, &town, POINTS}};
     double best[3];
-    memset(&l, 0, sizeof l);
-    make(&l);
+    memset(&town, 0, sizeof town);
+    make(&town.held);
     for (size_t p = 0; p < POINTS; p++) {
-        l.x[p] = chance_between(&chance, 0, STRIPS * STRIP_WIDTH);
-        l.y[p] = chance_between(&chance, 0, STRIP_HEIGHT);
+        town.x[p] = chance_between(&chance, west, east);
+        town.y[p] = chance_between(&chance, south, north);
     }
     measure(works, 3, best);
-    count_used(&l, &districts, &vertices);
+    count_used(&town.held, &districts, &vertices);
     printf("%2zu districts, %5zu vertices %12.1f %13.1f %12.1f %9.0f%%\n", districts, vertices, best[0], best[1], best[2],
            100 * best[2] / best[0]);
 }
@@ -420,7 +427,11 @@ int main(void)
     print_machine();
     bench_all_locating();
     printf("assigning, ns a report             assign   with a tally  well_formed its part of assign\n");
-    bench_assigning(make_strips);
-    bench_assigning(make_halves);
+    bench_assigning(make_strips, 0, 0, STRIPS * STRIP_WIDTH, STRIP_HEIGHT);
+    bench_assigning(make_halves, 0, 0, STRIPS * STRIP_WIDTH, STRIP_HEIGHT);
+    for (size_t s = 0; s < SIZES; s++) {
+        one_size = sizes[s];
+        bench_assigning(make_one, -LIMIT, -LIMIT, LIMIT, LIMIT);
+    }
     return sink == 0;
 }

@@ -13,14 +13,23 @@
 #define REFUSALS 20
 #define JUNK 0x5A5A5A5A5A5A5A5Au
 
+/* One call in so many goes by way of the struct. Tests that ask all nine calls on a register in turn give each of them its turn by this. */
+#define IN_STRUCT 7
+
 uint64_t both_calls;
 const char *both_about = "";
 
 /* Outcomes: the kinds of answer but REFUSED at their numbers, then the refusals. */
 static uint64_t came[CALLS][KINDS + REFUSALS];
 
+/* Whether the last call went by way of the struct, and how often each did. */
+static bool by_struct;
+static uint64_t in_struct[CALLS];
+
 const char *const both_names[CALLS] = {"locate", "well_formed",    "found",      "split",              "merge",
                                        "assign", "assign_counted", "assign_fix", "assign_fix_counted", "assign_missing"};
+
+const char *const both_columns[COLUMNS] = {"outline x", "outline y", "store x", "store y"};
 
 static const char *const kind_names[KINDS] = {"refused", "done", "vertex", "edge", "off", "border", "one", "none", "several"};
 
@@ -52,21 +61,39 @@ static size_t outcome(struct plain_answer answer)
     return answer.kind == LAUNCHRAMP_REFUSED ? KINDS + answer.values[0] : answer.kind;
 }
 
+/* Prints what came of a call; whether it is what launchramp.h names. */
+static bool as_named(size_t c)
+{
+    bool all = true;
+    for (size_t o = 0; o < KINDS + REFUSALS; o++) {
+        if (o < KINDS && came[c][o] > 0)
+            printf(" %s %" PRIu64, kind_names[o], came[c][o]);
+        if (o >= KINDS && came[c][o] > 0)
+            printf(" [%zu] %" PRIu64, o - KINDS, came[c][o]);
+        if ((came[c][o] > 0) != (named[c] >> o & 1)) {
+            printf(" (%s %zu: %s)", o < KINDS ? "kind" : "refusal", o < KINDS ? o : o - KINDS, came[c][o] > 0 ? "NOT NAMED" : "NEVER CAME");
+            all = false;
+        }
+    }
+    return all;
+}
+
+/* Locating has no register. */
+static bool met_in_struct(size_t c)
+{
+    if (c == LOCATE)
+        return true;
+    printf("; in a struct %" PRIu64 "%s", in_struct[c], in_struct[c] > 0 ? "" : " (NEVER)");
+    return in_struct[c] > 0;
+}
+
 bool both_all_reached(void)
 {
     bool all = true;
     for (size_t c = 0; c < CALLS; c++) {
         printf("  %-18s", both_names[c]);
-        for (size_t o = 0; o < KINDS + REFUSALS; o++) {
-            if (o < KINDS && came[c][o] > 0)
-                printf(" %s %" PRIu64, kind_names[o], came[c][o]);
-            if (o >= KINDS && came[c][o] > 0)
-                printf(" [%zu] %" PRIu64, o - KINDS, came[c][o]);
-            if ((came[c][o] > 0) != (named[c] >> o & 1)) {
-                printf(" (%s %zu: %s)", o < KINDS ? "kind" : "refusal", o < KINDS ? o : o - KINDS, came[c][o] > 0 ? "NOT NAMED" : "NEVER CAME");
-                all = false;
-            }
-        }
+        all = as_named(c) && all;
+        all = met_in_struct(c) && all;
         printf("\n");
     }
     return all;
@@ -95,8 +122,8 @@ static void print_counts(const char *name, const uint32_t *list, size_t length)
 static void print_lists(const char *when, const struct lists *l)
 {
     printf(" %s\n", when);
-    print_list("outline", l->outline, l->outline_length);
-    print_list("store", l->store, l->store_length);
+    for (enum column c = OUTLINE_X; c < COLUMNS; c++)
+        print_list(both_columns[c], l->column[c], l->column_length[c]);
     print_counts("runs", l->runs, l->runs_length);
 }
 
@@ -110,7 +137,7 @@ static void print_answer(const char *who, struct plain_answer answer)
 
 static void print_call(const struct twice *t, const struct call *call)
 {
-    printf("launchramp_%s", both_names[call->which]);
+    printf("launchramp_%s%s", both_names[call->which], by_struct ? "_in" : "");
     if (call->which == SPLIT)
         printf(", d %zu, i %zu, j %zu", call->number[0], call->number[1], call->number[2]);
     if (call->which == MERGE)
@@ -173,41 +200,117 @@ static struct plain_answer plain_call(struct twice *t, const struct call *c)
     }
 }
 
-static uint32_t library_call(struct twice *t, const struct call *c, uint64_t *values)
+/* The arguments that every call on a register begins with. */
+#define COLUMN(l, c) (l)->column[c], (l)->column_length[c]
+#define LENT(l) COLUMN(l, OUTLINE_X), COLUMN(l, OUTLINE_Y), COLUMN(l, STORE_X), COLUMN(l, STORE_Y), (l)->runs, (l)->runs_length
+
+static uint32_t told_well_formed(bool well_formed, uint64_t *values)
 {
-    struct lists *l = t == NULL ? NULL : &t->lists;
+    memset(values, 0, LAUNCHRAMP_VALUES * sizeof values[0]);
+    values[0] = well_formed ? 0 : NOT_WELL_FORMED;
+    return well_formed ? LAUNCHRAMP_DONE : LAUNCHRAMP_REFUSED;
+}
+
+static uint32_t call_on_lists(struct twice *t, const struct call *c, uint64_t *values)
+{
+    struct lists *l = &t->lists;
     const size_t *number = c->number;
     switch (c->which) {
-    case LOCATE:
-        return launchramp_locate(c->list, c->length, c->x, c->y, values);
     case FOUND:
-        return launchramp_found(l->outline, l->outline_length, l->store, l->store_length, l->runs, l->runs_length, c->list, c->length,
-                                values);
+        return launchramp_found(LENT(l), c->list, c->length, values);
     case SPLIT:
-        return launchramp_split(l->outline, l->outline_length, l->store, l->store_length, l->runs, l->runs_length, number[0], number[1],
-                                number[2], c->list, c->length, values);
+        return launchramp_split(LENT(l), number[0], number[1], number[2], c->list, c->length, values);
     case MERGE:
-        return launchramp_merge(l->outline, l->outline_length, l->store, l->store_length, l->runs, l->runs_length, number[0], number[1],
-                                number[2], number[3], number[4], values);
+        return launchramp_merge(LENT(l), number[0], number[1], number[2], number[3], number[4], values);
     case ASSIGN:
-        return launchramp_assign(l->outline, l->outline_length, l->store, l->store_length, l->runs, l->runs_length, c->x, c->y, values);
+        return launchramp_assign(LENT(l), c->x, c->y, values);
     case ASSIGN_COUNTED:
-        return launchramp_assign_counted(l->outline, l->outline_length, l->store, l->store_length, l->runs, l->runs_length, c->x, c->y,
-                                         t->counts, values);
+        return launchramp_assign_counted(LENT(l), c->x, c->y, t->counts, values);
     case ASSIGN_FIX:
-        return launchramp_assign_fix(l->outline, l->outline_length, l->store, l->store_length, l->runs, l->runs_length, c->easting,
-                                     c->northing, values);
+        return launchramp_assign_fix(LENT(l), c->easting, c->northing, values);
     case ASSIGN_FIX_COUNTED:
-        return launchramp_assign_fix_counted(l->outline, l->outline_length, l->store, l->store_length, l->runs, l->runs_length, c->easting,
-                                             c->northing, t->counts, values);
+        return launchramp_assign_fix_counted(LENT(l), c->easting, c->northing, t->counts, values);
     case ASSIGN_MISSING:
-        return launchramp_assign_missing(l->outline, l->outline_length, l->store, l->store_length, l->runs, l->runs_length, values);
+        return launchramp_assign_missing(LENT(l), values);
     default:
-        memset(values, 0, LAUNCHRAMP_VALUES * sizeof values[0]);
-        values[0] = launchramp_well_formed(l->outline, l->outline_length, l->store, l->store_length, l->runs, l->runs_length) ? 0
-                                                                                                                              : NOT_WELL_FORMED;
-        return values[0] == 0 ? LAUNCHRAMP_DONE : LAUNCHRAMP_REFUSED;
+        return told_well_formed(launchramp_well_formed(LENT(l)), values);
     }
+}
+
+static uint32_t call_on_struct(struct twice *t, launchramp_register *r, const struct call *c, uint64_t *values)
+{
+    const size_t *number = c->number;
+    switch (c->which) {
+    case FOUND:
+        return launchramp_found_in(r, c->list, c->length, values);
+    case SPLIT:
+        return launchramp_split_in(r, number[0], number[1], number[2], c->list, c->length, values);
+    case MERGE:
+        return launchramp_merge_in(r, number[0], number[1], number[2], number[3], number[4], values);
+    case ASSIGN:
+        return launchramp_assign_in(r, c->x, c->y, values);
+    case ASSIGN_COUNTED:
+        return launchramp_assign_counted_in(r, c->x, c->y, t->counts, values);
+    case ASSIGN_FIX:
+        return launchramp_assign_fix_in(r, c->easting, c->northing, values);
+    case ASSIGN_FIX_COUNTED:
+        return launchramp_assign_fix_counted_in(r, c->easting, c->northing, t->counts, values);
+    case ASSIGN_MISSING:
+        return launchramp_assign_missing_in(r, values);
+    default:
+        return told_well_formed(launchramp_well_formed_in(r), values);
+    }
+}
+
+/* In small pieces: the C library copies large ones by an instruction that takes the kit's emulator a byte at a time. */
+static void copy(void *to, const void *from, size_t bytes)
+{
+    const size_t piece = 1024;
+    size_t at = 0;
+    for (; at + piece <= bytes; at += piece)
+        memcpy((char *)to + at, (const char *)from + at, piece);
+    memcpy((char *)to + at, (const char *)from + at, bytes - at);
+}
+
+static int32_t *column_in(launchramp_register *r, enum column c)
+{
+    int32_t *const columns[COLUMNS] = {r->outline_x, r->outline_y, r->store_x, r->store_y};
+    return columns[c];
+}
+
+static void to_struct(launchramp_register *r, const struct lists *l)
+{
+    for (enum column c = OUTLINE_X; c < COLUMNS; c++)
+        copy(column_in(r, c), l->column[c], sizeof r->outline_x);
+    copy(r->runs, l->runs, sizeof r->runs);
+}
+
+static void from_struct(struct lists *l, launchramp_register *r)
+{
+    for (enum column c = OUTLINE_X; c < COLUMNS; c++)
+        copy(l->column[c], column_in(r, c), sizeof r->outline_x);
+    copy(l->runs, r->runs, sizeof r->runs);
+}
+
+static uint32_t library_call(struct twice *t, const struct call *c, uint64_t *values)
+{
+    static launchramp_register held;
+    by_struct = c->which != LOCATE && both_calls % IN_STRUCT == 0 && plain_lengths_right(&t->lists);
+    if (c->which == LOCATE)
+        return launchramp_locate(c->list, c->length, c->x, c->y, values);
+    if (!by_struct)
+        return call_on_lists(t, c, values);
+    in_struct[c->which]++;
+    to_struct(&held, &t->lists);
+    uint32_t kind = call_on_struct(t, &held, c, values);
+    from_struct(&t->lists, &held);
+    return kind;
+}
+
+/* From place `from` on. */
+static bool same_column(const struct lists *one, const struct lists *other, enum column c, size_t from)
+{
+    return memcmp(one->column[c] + from, other->column[c] + from, sizeof one->column[c] - from * sizeof one->column[c][0]) == 0;
 }
 
 /* Whether an accepted founding, split or merge left what it may: the rings of the rows, in well-formed lists of the same length, and the
@@ -215,15 +318,14 @@ static uint32_t library_call(struct twice *t, const struct call *c, uint64_t *va
 static bool changed_well(const struct twice *t, enum which which)
 {
     const struct lists *l = &t->lists, *before = &t->before;
-    const size_t spare = BOTH_SPARE * sizeof(int32_t);
-    if (which != FOUND && memcmp(l->outline, before->outline, sizeof l->outline) != 0)
+    if (which != FOUND && (!same_column(l, before, OUTLINE_X, 0) || !same_column(l, before, OUTLINE_Y, 0)))
         return false;
-    if (memcmp(l->outline + LAUNCHRAMP_OUTLINE_LENGTH, before->outline + LAUNCHRAMP_OUTLINE_LENGTH, spare) != 0 ||
-        memcmp(l->store + LAUNCHRAMP_STORE_LENGTH, before->store + LAUNCHRAMP_STORE_LENGTH, spare) != 0 ||
-        memcmp(l->runs + LAUNCHRAMP_RUNS_LENGTH, before->runs + LAUNCHRAMP_RUNS_LENGTH, spare) != 0)
+    for (enum column c = OUTLINE_X; c < COLUMNS; c++)
+        if (!same_column(l, before, c, LAUNCHRAMP_COLUMN_LENGTH))
+            return false;
+    if (memcmp(l->runs + LAUNCHRAMP_RUNS_LENGTH, before->runs + LAUNCHRAMP_RUNS_LENGTH, LISTS_SPARE * sizeof l->runs[0]) != 0)
         return false;
-    return plain_well_formed(l->outline, l->outline_length, l->store, l->store_length, l->runs, l->runs_length) &&
-           plain_same(&t->rows, l->outline, l->store, l->runs);
+    return plain_well_formed(l) && plain_same(&t->rows, l);
 }
 
 static void compare_lists(struct twice *t, const struct call *call, struct plain_answer got, struct plain_answer expected)
@@ -272,14 +374,9 @@ void both_ask_alike(struct twice *t, const struct call *one, const struct call *
         differ(t, other, "from the answer to the call before", second, first);
 }
 
-/* In small pieces: the C library copies large ones by an instruction that takes the kit's emulator a byte at a time. */
 void both_copy(struct lists *to, const struct lists *from)
 {
-    const size_t piece = 1024;
-    size_t at = 0;
-    for (; at + piece <= sizeof *to; at += piece)
-        memcpy((char *)to + at, (const char *)from + at, piece);
-    memcpy((char *)to + at, (const char *)from + at, sizeof *to - at);
+    copy(to, from, sizeof *to);
 }
 
 void both_remember(struct twice *t)
@@ -289,10 +386,9 @@ void both_remember(struct twice *t)
 
 void both_reread(struct twice *t)
 {
-    const struct lists *l = &t->lists;
-    t->damaged = !plain_well_formed(l->outline, l->outline_length, l->store, l->store_length, l->runs, l->runs_length);
+    t->damaged = !plain_well_formed(&t->lists);
     if (!t->damaged)
-        plain_read(&t->rows, l->outline, l->store, l->runs);
+        plain_read(&t->rows, &t->lists);
     t->by_calls = false;
     both_remember(t);
 }

@@ -1,24 +1,10 @@
 /* One call to the library and to plain.h, compared: the answer and its values, every byte of the lists where nothing may change, and every
- * ring where something does, and then the sums of sums.h. The first difference is printed with the whole call, and ends the program with status
- * 1. */
+ * ring where something does, and then the sums of sums.h. Every few calls go by way of struct launchramp_register. The first difference is printed
+ * with the whole call, and ends the program with status 1. */
 #ifndef BOTH_H
 #define BOTH_H
 
 #include "plain.h"
-
-/* Numbers behind each list that no call may change; a list of a wrong length reaches into them. 7 leaves no padding in struct lists. */
-#define BOTH_SPARE 7
-
-/* Where first places and numbers of vertices begin in the runs. */
-#define PLACES 1
-#define SIZES (1 + PLAIN_NUMBERS)
-
-struct lists {
-    size_t outline_length, store_length, runs_length;
-    int32_t outline[LAUNCHRAMP_OUTLINE_LENGTH + BOTH_SPARE];
-    int32_t store[LAUNCHRAMP_STORE_LENGTH + BOTH_SPARE];
-    uint32_t runs[LAUNCHRAMP_RUNS_LENGTH + BOTH_SPARE];
-};
 
 /* A register and a tally twice over: as the library has them and in plain C. */
 struct twice {
@@ -30,8 +16,8 @@ struct twice {
     struct plain_register rows;
     /* Every ring came by accepted calls, so that the sums of sums.h hold. */
     bool by_calls;
-    uint32_t counts[LAUNCHRAMP_COUNTS + BOTH_SPARE];
-    uint32_t plain_counts[LAUNCHRAMP_COUNTS + BOTH_SPARE];
+    uint32_t counts[LAUNCHRAMP_COUNTS + LISTS_SPARE];
+    uint32_t plain_counts[LAUNCHRAMP_COUNTS + LISTS_SPARE];
 };
 
 enum which {
@@ -62,6 +48,9 @@ struct call {
 /* As launchramp.h names the calls, without the library's name before them. */
 extern const char *const both_names[CALLS];
 
+/* "outline x", .. */
+extern const char *const both_columns[COLUMNS];
+
 /* How many calls were made so far. */
 extern uint64_t both_calls;
 
@@ -88,8 +77,8 @@ bool both_same(struct plain_answer one, struct plain_answer other);
 /* Makes two calls that must have the same answer. */
 void both_ask_alike(struct twice *t, const struct call *one, const struct call *other);
 
-/* Prints how often each answer and each refusal came. False, and a line that says so, where launchramp.h names one that never came, or does
- * not name one that did. */
+/* Prints how often each answer and each refusal came, and how often each call went by way of the struct. False, and a line that says so, where
+ * launchramp.h names an answer that never came, or does not name one that did, or where a call never went that way. */
 bool both_all_reached(void);
 
 #endif

@@ -1,6 +1,7 @@
 /* What damage.h promises. Each kind leaves all else as sound as it can be, so that only the test of that one thing can tell. Which run, which
  * place and how much are drawn. */
 #include "damage.h"
+#include "harms.h"
 #include "lives.h"
 #include "makes.h"
 
@@ -42,20 +43,33 @@ static size_t some_unused(const struct plain_register *g)
 
 static size_t wrong_length(size_t right)
 {
-    const size_t wrong[] = {0, 1, right / 2, right - 2, right - 1, right + 1, right + 2, right + BOTH_SPARE};
+    const size_t wrong[] = {0, 1, right / 2, right - 2, right - 1, right + 1, right + 2, right + LISTS_SPARE};
     return wrong[below(LENGTH(wrong))];
 }
 
-static void outline_length(struct lists *l, const struct plain_register *g)
+static void column_length(struct lists *l, const struct plain_register *g)
 {
     (void)g;
-    l->outline_length = wrong_length(LAUNCHRAMP_OUTLINE_LENGTH);
+    l->column_length[below(COLUMNS)] = wrong_length(LAUNCHRAMP_COLUMN_LENGTH);
 }
 
-static void store_length(struct lists *l, const struct plain_register *g)
+/* Of the outline or of the store. */
+static void same_lengths(struct lists *l, const struct plain_register *g)
 {
+    const bool outline = once_in(2);
+    const size_t wrong = wrong_length(LAUNCHRAMP_COLUMN_LENGTH);
     (void)g;
-    l->store_length = wrong_length(LAUNCHRAMP_STORE_LENGTH);
+    l->column_length[outline ? OUTLINE_X : STORE_X] = wrong;
+    l->column_length[outline ? OUTLINE_Y : STORE_Y] = wrong;
+}
+
+/* By as much. */
+static void uneven_lengths(struct lists *l, const struct plain_register *g)
+{
+    const size_t shorter = below(COLUMNS), longer = (shorter + 1 + below(COLUMNS - 1)) % COLUMNS, by = 1 + below(LISTS_SPARE);
+    (void)g;
+    l->column_length[shorter] -= by;
+    l->column_length[longer] += by;
 }
 
 static void runs_length(struct lists *l, const struct plain_register *g)
@@ -201,14 +215,21 @@ static size_t some_place(size_t many)
     return once_in(3) ? 0 : once_in(2) ? many - 1 : below(many);
 }
 
+/* A coordinate in use, of one of two columns. */
+static int32_t *some_coordinate(struct lists *l, const struct plain_register *g, enum column x, enum column y)
+{
+    enum column c = once_in(2) ? x : y;
+    return &l->column[c][some_place(plain_used(g, c))];
+}
+
 static void outline_beyond(struct lists *l, const struct plain_register *g)
 {
-    l->outline[some_place(2 * g->outline.n)] = made_beyond();
+    *some_coordinate(l, g, OUTLINE_X, OUTLINE_Y) = made_beyond();
 }
 
 static void store_beyond(struct lists *l, const struct plain_register *g)
 {
-    l->store[some_place(2 * plain_total(g))] = made_beyond();
+    *some_coordinate(l, g, STORE_X, STORE_Y) = made_beyond();
 }
 
 /* ---- nothing wrong ---- */
@@ -242,12 +263,12 @@ static void store_filled(struct lists *l, const struct plain_register *g)
 
 static void outline_at_limit(struct lists *l, const struct plain_register *g)
 {
-    l->outline[some_place(2 * g->outline.n)] = once_in(2) ? PLAIN_LIMIT : -PLAIN_LIMIT;
+    *some_coordinate(l, g, OUTLINE_X, OUTLINE_Y) = once_in(2) ? PLAIN_LIMIT : -PLAIN_LIMIT;
 }
 
 static void store_at_limit(struct lists *l, const struct plain_register *g)
 {
-    l->store[some_place(2 * plain_total(g))] = once_in(2) ? PLAIN_LIMIT : -PLAIN_LIMIT;
+    *some_coordinate(l, g, STORE_X, STORE_Y) = once_in(2) ? PLAIN_LIMIT : -PLAIN_LIMIT;
 }
 
 /* ---- anything ---- */
@@ -287,8 +308,9 @@ static const struct kind {
     unsigned makes;
     enum known known;
 } kinds[] = {
-    {"an outline list of a wrong length", outline_length, EVERY_MAKE, DAMAGED},
-    {"a store of a wrong length", store_length, EVERY_MAKE, DAMAGED},
+    {"a column of a wrong length", column_length, EVERY_MAKE, DAMAGED},
+    {"x and y of the same wrong length", same_lengths, EVERY_MAKE, DAMAGED},
+    {"a column too short, another too long", uneven_lengths, EVERY_MAKE, DAMAGED},
     {"a list of runs of a wrong length", runs_length, EVERY_MAKE, DAMAGED},
     {"an outline of 1, 2 or 2,049 vertices", outline_size, EVERY_MAKE, DAMAGED},
     {"a district of 1, 2 or 2,049 vertices", district_size, WITH_DISTRICTS, DAMAGED},
@@ -353,6 +375,8 @@ static void damage_one(const struct kind *kind, enum make make, struct land land
     came->registers++;
     came->damaged += harmed.damaged;
     ask_all(kind, make, land, came);
+    if (harmed.damaged)
+        harms_count(&harmed, &good);
 }
 
 static void damage_makes(const struct kind *kind, int times, struct outcome *came)

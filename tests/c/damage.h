@@ -1,4 +1,4 @@
-/* Registers of every make with one thing wrong, and registers at a limit with nothing wrong. */
+/* Registers of every make with one thing wrong, in any of the five lists, and registers at a limit with nothing wrong. */
 #ifndef DAMAGE_H
 #define DAMAGE_H
 

@@ -1,7 +1,8 @@
 /* differ [SEED]: the library against plain.c on made calls: rings and points, the lives of registers, damage and litter, tallies, reports in
  * metres. It prints a line for each part, then how often each answer came of each call. Status 1 where anything differs, where a part asked
- * nothing or sums.h or spans.h too little, or where launchramp.h names an answer that never came. */
+ * nothing or sums.h, spans.h or harms.h too little, or where launchramp.h names an answer that never came. */
 #include "damage.h"
+#include "harms.h"
 #include "litter.h"
 #include "lives.h"
 #include "spans.h"
@@ -222,6 +223,7 @@ int main(int count, char **words)
     part("tallies of lives", 1000, tallies_of_a_life);
     bool summed = sums_enough();
     bool apart = spans_enough();
+    bool harmed = harms_enough();
     printf("%" PRIu64 " calls; how often each answer and each [refusal] came:\n", both_calls);
-    return both_all_reached() && summed && apart ? 0 : 1;
+    return both_all_reached() && summed && apart && harmed ? 0 : 1;
 }

@@ -7,17 +7,6 @@
 #include <stdlib.h>
 #include <string.h>
 
-/* Where the free room of a list begins. */
-static size_t behind_outline(const struct twice *t)
-{
-    return 2 * t->rows.outline.n;
-}
-
-static size_t behind_rings(const struct twice *t)
-{
-    return 2 * plain_total(&t->rows);
-}
-
 static int32_t no_coordinate(void)
 {
     return once_in(2) ? made_beyond() : (int32_t)chance_next(&made_chance);
@@ -38,34 +27,31 @@ static uint32_t no_place(const struct plain_register *g)
     return (uint32_t)places[below(LENGTH(places))];
 }
 
+static void litter_one_place(struct twice *t, enum column c)
+{
+    size_t free = plain_used(&t->rows, c);
+    if (free < LAUNCHRAMP_COLUMN_LENGTH)
+        t->lists.column[c][free + below(LAUNCHRAMP_COLUMN_LENGTH - free)] = no_coordinate();
+}
+
 void litter_some(struct twice *t)
 {
-    struct lists *l = &t->lists;
-    size_t outline = behind_outline(t), store = behind_rings(t);
     for (int i = 0; i < 20; i++) {
-        if (outline < LAUNCHRAMP_OUTLINE_LENGTH)
-            l->outline[outline + below(LAUNCHRAMP_OUTLINE_LENGTH - outline)] = no_coordinate();
-        if (store < LAUNCHRAMP_STORE_LENGTH)
-            l->store[store + below(LAUNCHRAMP_STORE_LENGTH - store)] = no_coordinate();
+        for (enum column c = OUTLINE_X; c < COLUMNS; c++)
+            litter_one_place(t, c);
         size_t d = below(PLAIN_NUMBERS);
         if (t->rows.district[d].n == 0)
-            l->runs[PLACES + d] = no_place(&t->rows);
+            t->lists.runs[PLACES + d] = no_place(&t->rows);
     }
     both_remember(t);
 }
 
 /* ---- all of the free room, kind by kind ---- */
 
-static void litter_outline(struct twice *t)
+static void litter_column(struct twice *t, enum column c)
 {
-    for (size_t i = behind_outline(t); i < LAUNCHRAMP_OUTLINE_LENGTH; i++)
-        t->lists.outline[i] = no_coordinate();
-}
-
-static void litter_store(struct twice *t)
-{
-    for (size_t i = behind_rings(t); i < LAUNCHRAMP_STORE_LENGTH; i++)
-        t->lists.store[i] = no_coordinate();
+    for (size_t i = plain_used(&t->rows, c); i < LAUNCHRAMP_COLUMN_LENGTH; i++)
+        t->lists.column[c][i] = no_coordinate();
 }
 
 static void litter_places(struct twice *t)
@@ -77,13 +63,16 @@ static void litter_places(struct twice *t)
 
 static const struct {
     const char *name;
-    void (*all)(struct twice *t);
+    /* COLUMNS: none of them, but the runs. */
+    enum column where;
     /* The makes that have such room. */
     unsigned makes;
 } kinds[] = {
-    {"litter behind the outline", litter_outline, EVERY_MAKE & ~(1u << LONGEST_OUTLINE)},
-    {"litter behind the rings", litter_store, EVERY_MAKE & ~(1u << FULL_STORE)},
-    {"litter in first places of unused numbers", litter_places, EVERY_MAKE & ~(1u << ALL_NUMBERS)},
+    {"litter behind the outline's x", OUTLINE_X, EVERY_MAKE & ~(1u << LONGEST_OUTLINE)},
+    {"litter behind the outline's y", OUTLINE_Y, EVERY_MAKE & ~(1u << LONGEST_OUTLINE)},
+    {"litter behind the rings' x", STORE_X, EVERY_MAKE & ~(1u << FULL_STORE)},
+    {"litter behind the rings' y", STORE_Y, EVERY_MAKE & ~(1u << FULL_STORE)},
+    {"litter in first places of unused numbers", COLUMNS, EVERY_MAKE & ~(1u << ALL_NUMBERS)},
 };
 
 static struct twice clean, littered;
@@ -96,8 +85,7 @@ static void fail(const char *kind, enum make make, const char *why)
 
 static bool same_meaning(void)
 {
-    const struct lists *l = &littered.lists;
-    return plain_same(&clean.rows, l->outline, l->store, l->runs);
+    return plain_same(&clean.rows, &littered.lists);
 }
 
 /* Every call, to the clean register and to the littered one, which stay alike. */
@@ -132,7 +120,10 @@ static size_t litter_one(size_t kind, enum make make)
     both_copy(&littered.lists, &clean.lists);
     both_reread(&littered);
     littered.by_calls = clean.by_calls;
-    kinds[kind].all(&littered);
+    if (kinds[kind].where == COLUMNS)
+        litter_places(&littered);
+    else
+        litter_column(&littered, kinds[kind].where);
     both_remember(&littered);
     size_t changed = numbers_changed();
     memcpy(littered.counts, clean.counts, sizeof clean.counts);

@@ -20,8 +20,8 @@ void lives_make_tally(struct twice *t)
 void lives_start(struct twice *t)
 {
     memset(&t->lists, 0, sizeof t->lists);
-    t->lists.outline_length = LAUNCHRAMP_OUTLINE_LENGTH;
-    t->lists.store_length = LAUNCHRAMP_STORE_LENGTH;
+    for (enum column c = OUTLINE_X; c < COLUMNS; c++)
+        t->lists.column_length[c] = LAUNCHRAMP_COLUMN_LENGTH;
     t->lists.runs_length = LAUNCHRAMP_RUNS_LENGTH;
     both_reread(t);
     t->by_calls = true;

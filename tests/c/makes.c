@@ -73,8 +73,10 @@ static void exchange_runs(struct twice *t)
 static void lengthen_outline(struct twice *t, struct land land)
 {
     struct lists *l = &t->lists;
-    for (size_t i = 2 * t->rows.outline.n; i < LAUNCHRAMP_OUTLINE_LENGTH; i++)
-        l->outline[i] = made_coordinate(land);
+    for (size_t i = t->rows.outline.n; i < LAUNCHRAMP_COLUMN_LENGTH; i++) {
+        l->column[OUTLINE_X][i] = made_coordinate(land);
+        l->column[OUTLINE_Y][i] = made_coordinate(land);
+    }
     l->runs[0] = PLAIN_MOST_VERTICES;
     both_reread(t);
 }
@@ -89,8 +91,10 @@ static void require(bool good, enum make make)
 
 void makes_register(struct twice *t, enum make make, struct land land)
 {
-    /* Even, as every split leaves the total; and few enough that no path fills the store before its time. */
+    /* Few enough that no path fills the store before its time; and even where it is to be full, since every split adds an even number. */
     size_t vertices = 2 * (2 + below(make == FULL_STORE && once_in(2) ? 700 : 6));
+    if (make != FULL_STORE)
+        vertices -= below(2);
     lives_start(t);
     if (make != FRESH) {
         found(t, vertices, land);

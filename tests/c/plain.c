@@ -138,6 +138,11 @@ size_t plain_total(const struct plain_register *g)
     return total;
 }
 
+size_t plain_used(const struct plain_register *g, enum column c)
+{
+    return c == OUTLINE_X || c == OUTLINE_Y ? g->outline.n : plain_total(g);
+}
+
 static bool in_use(const struct plain_register *g, size_t d)
 {
     return d < PLAIN_NUMBERS && g->district[d].n > 0;
@@ -352,15 +357,14 @@ struct plain_answer plain_count(uint32_t *counts, struct plain_answer sorted)
     return sorted;
 }
 
-/* Runs: the outline's number of vertices, the 64 first places, the 64 numbers of vertices. */
 static uint64_t first_place(const uint32_t *runs, size_t d)
 {
-    return runs[1 + d];
+    return runs[PLACES + d];
 }
 
 static uint64_t size(const uint32_t *runs, size_t d)
 {
-    return runs[1 + PLAIN_NUMBERS + d];
+    return runs[SIZES + d];
 }
 
 static bool allowed(uint64_t n)
@@ -403,35 +407,63 @@ static bool packed(const uint32_t *runs, uint64_t *total)
     return true;
 }
 
-bool plain_well_formed(const int32_t *outline, size_t outline_length, const int32_t *store, size_t store_length, const uint32_t *runs,
-                       size_t runs_length)
+bool plain_lengths_right(const struct lists *l)
+{
+    for (enum column c = OUTLINE_X; c < COLUMNS; c++)
+        if (l->column_length[c] != LAUNCHRAMP_COLUMN_LENGTH)
+            return false;
+    return l->runs_length == LAUNCHRAMP_RUNS_LENGTH;
+}
+
+bool plain_well_formed(const struct lists *l)
 {
     uint64_t total;
-    if (outline_length != LAUNCHRAMP_OUTLINE_LENGTH || store_length != LAUNCHRAMP_STORE_LENGTH || runs_length != LAUNCHRAMP_RUNS_LENGTH)
+    if (!plain_lengths_right(l) || !sizes_allowed(l->runs) || !packed(l->runs, &total) || (l->runs[0] == 0 && total > 0))
         return false;
-    if (!sizes_allowed(runs) || !packed(runs, &total) || (runs[0] == 0 && total > 0))
+    return !some_beyond(l->column[OUTLINE_X], l->runs[0]) && !some_beyond(l->column[OUTLINE_Y], l->runs[0]) &&
+           !some_beyond(l->column[STORE_X], total) && !some_beyond(l->column[STORE_Y], total);
+}
+
+static void read_ring(struct plain_ring *ring, const int32_t *xs, const int32_t *ys, size_t n)
+{
+    ring->n = n;
+    for (size_t i = 0; i < n; i++) {
+        ring->at[i].x = xs[i];
+        ring->at[i].y = ys[i];
+    }
+}
+
+/* Where district d's ring begins in both columns of the store. The first place of an unused number has no meaning. */
+static size_t beginning(const uint32_t *runs, size_t d)
+{
+    return size(runs, d) > 0 ? first_place(runs, d) : 0;
+}
+
+void plain_read(struct plain_register *g, const struct lists *l)
+{
+    read_ring(&g->outline, l->column[OUTLINE_X], l->column[OUTLINE_Y], l->runs[0]);
+    for (size_t d = 0; d < PLAIN_NUMBERS; d++) {
+        size_t from = beginning(l->runs, d);
+        read_ring(&g->district[d], l->column[STORE_X] + from, l->column[STORE_Y] + from, size(l->runs, d));
+    }
+}
+
+static bool same_ring(const struct plain_ring *ring, const int32_t *xs, const int32_t *ys, uint64_t n)
+{
+    if (ring->n != n)
         return false;
-    return !some_beyond(outline, 2 * runs[0]) && !some_beyond(store, 2 * total);
+    for (size_t i = 0; i < n; i++)
+        if (ring->at[i].x != xs[i] || ring->at[i].y != ys[i])
+            return false;
+    return true;
 }
 
-void plain_read(struct plain_register *g, const int32_t *outline, const int32_t *store, const uint32_t *runs)
-{
-    take_ring(&g->outline, outline, runs[0]);
-    for (size_t d = 0; d < PLAIN_NUMBERS; d++)
-        take_ring(&g->district[d], size(runs, d) > 0 ? store + 2 * first_place(runs, d) : store, size(runs, d));
-}
-
-static bool same_ring(const struct plain_ring *ring, const int32_t *list, uint64_t n)
-{
-    return ring->n == n && memcmp(ring->at, list, n * sizeof ring->at[0]) == 0;
-}
-
-bool plain_same(const struct plain_register *g, const int32_t *outline, const int32_t *store, const uint32_t *runs)
+bool plain_same(const struct plain_register *g, const struct lists *l)
 {
     for (size_t d = 0; d < PLAIN_NUMBERS; d++) {
-        const int32_t *from = size(runs, d) > 0 ? store + 2 * first_place(runs, d) : store;
-        if (!same_ring(&g->district[d], from, size(runs, d)))
+        size_t from = beginning(l->runs, d);
+        if (!same_ring(&g->district[d], l->column[STORE_X] + from, l->column[STORE_Y] + from, size(l->runs, d)))
             return false;
     }
-    return same_ring(&g->outline, outline, runs[0]);
+    return same_ring(&g->outline, l->column[OUTLINE_X], l->column[OUTLINE_Y], l->runs[0]);
 }

@@ -5,7 +5,7 @@
 #define PLAIN_H
 
 #include "exact.h"
-#include "launchramp.h"
+#include "lists.h"
 
 #define PLAIN_NUMBERS 64
 #define PLAIN_FEWEST_VERTICES 3
@@ -56,6 +56,9 @@ struct plain_answer {
 /* How many vertices all districts have. */
 size_t plain_total(const struct plain_register *g);
 
+/* How many places of a column hold the register; the others are free room. */
+size_t plain_used(const struct plain_register *g, enum column c);
+
 struct plain_answer plain_locate(const int32_t *list, size_t length, int32_t x, int32_t y);
 struct plain_answer plain_found(struct plain_register *g, const int32_t *list, size_t length);
 struct plain_answer plain_split(struct plain_register *g, size_t d, size_t i, size_t j, const int32_t *path, size_t length);
@@ -70,13 +73,15 @@ struct plain_answer plain_place(struct exact easting, struct exact northing, str
 /* The answer to a report after counting it in a tally of LAUNCHRAMP_COUNTS counts. */
 struct plain_answer plain_count(uint32_t *counts, struct plain_answer sorted);
 
-bool plain_well_formed(const int32_t *outline, size_t outline_length, const int32_t *store, size_t store_length, const uint32_t *runs,
-                       size_t runs_length);
+/* Whether the five lists have the lengths of a register. */
+bool plain_lengths_right(const struct lists *l);
+
+bool plain_well_formed(const struct lists *l);
 
 /* The register that well-formed lists hold. */
-void plain_read(struct plain_register *g, const int32_t *outline, const int32_t *store, const uint32_t *runs);
+void plain_read(struct plain_register *g, const struct lists *l);
 
 /* Whether lists that are known to be well-formed hold this register: every ring, from the same vertex on. */
-bool plain_same(const struct plain_register *g, const int32_t *outline, const int32_t *store, const uint32_t *runs);
+bool plain_same(const struct plain_register *g, const struct lists *l);
 
 #endif

@@ -16,9 +16,9 @@ enum { OUTLINE = 1, SPLIT = 2, REPORT = 4 };
 #define REPORT_SIZE 15
 #define PAIR 8
 
-static int32_t outline[LAUNCHRAMP_OUTLINE_LENGTH], store[LAUNCHRAMP_STORE_LENGTH];
-static uint32_t runs[LAUNCHRAMP_RUNS_LENGTH], counts[LAUNCHRAMP_COUNTS];
-static int32_t pairs[LAUNCHRAMP_OUTLINE_LENGTH];
+static launchramp_register town;
+static uint32_t counts[LAUNCHRAMP_COUNTS];
+static int32_t pairs[2 * LAUNCHRAMP_COLUMN_LENGTH];
 static uint64_t values[LAUNCHRAMP_VALUES];
 
 static size_t two(const unsigned char *at)
@@ -39,13 +39,11 @@ static const unsigned char *apply(const unsigned char *at)
     uint32_t kind;
     if (at[2] == OUTLINE) {
         n = two(at + 3);
-        kind = launchramp_found(outline, LAUNCHRAMP_OUTLINE_LENGTH, store, LAUNCHRAMP_STORE_LENGTH, runs, LAUNCHRAMP_RUNS_LENGTH,
-                                read_pairs(at + OUTLINE_HEAD, n), 2 * n, values);
+        kind = launchramp_found_in(&town, read_pairs(at + OUTLINE_HEAD, n), 2 * n, values);
         at += OUTLINE_HEAD + PAIR * n;
     } else {
         n = two(at + 8);
-        kind = launchramp_split(outline, LAUNCHRAMP_OUTLINE_LENGTH, store, LAUNCHRAMP_STORE_LENGTH, runs, LAUNCHRAMP_RUNS_LENGTH, at[3],
-                                two(at + 4), two(at + 6), read_pairs(at + SPLIT_HEAD, n), 2 * n, values);
+        kind = launchramp_split_in(&town, at[3], two(at + 4), two(at + 6), read_pairs(at + SPLIT_HEAD, n), 2 * n, values);
         at += SPLIT_HEAD + PAIR * n;
     }
     if (kind == LAUNCHRAMP_REFUSED) {
@@ -95,8 +93,7 @@ int main(int count, char **words)
     for (; at < bytes + size; at += REPORT_SIZE) {
         int32_t point[2];
         memcpy(point, at + 7, sizeof point);
-        launchramp_assign_counted(outline, LAUNCHRAMP_OUTLINE_LENGTH, store, LAUNCHRAMP_STORE_LENGTH, runs, LAUNCHRAMP_RUNS_LENGTH,
-                                  point[0], point[1], counts, values);
+        launchramp_assign_counted_in(&town, point[0], point[1], counts, values);
     }
     printf("%.3f\n", seconds() - start);
     return 0;

@@ -14,6 +14,20 @@
 
 static uint64_t asked, inside, layered;
 
+/* The rings of the lists as launchramp_locate takes them: x, y, x, y, .. */
+struct rings {
+    int32_t outline[2 * LAUNCHRAMP_COLUMN_LENGTH], store[2 * LAUNCHRAMP_COLUMN_LENGTH];
+    const uint32_t *runs;
+};
+
+static void pair(int32_t *pairs, const int32_t *xs, const int32_t *ys)
+{
+    for (size_t i = 0; i < LAUNCHRAMP_COLUMN_LENGTH; i++) {
+        pairs[2 * i] = xs[i];
+        pairs[2 * i + 1] = ys[i];
+    }
+}
+
 struct turns {
     /* The point is on a ring, where there is nothing to add. */
     bool on_ring;
@@ -33,13 +47,13 @@ static void add_ring(struct turns *turns, const int32_t *ring, size_t n, struct 
     turns->many += values[0] != 0;
 }
 
-static struct turns of_districts(const struct lists *l, struct plain_point r)
+static struct turns of_districts(const struct rings *rings, struct plain_point r)
 {
     struct turns turns = {false, 0, 0};
     for (size_t d = 0; d < PLAIN_NUMBERS && !turns.on_ring; d++) {
-        const size_t place = l->runs[PLACES + d], n = l->runs[SIZES + d];
+        const size_t place = rings->runs[PLACES + d], n = rings->runs[SIZES + d];
         if (n > 0)
-            add_ring(&turns, l->store + 2 * place, n, r);
+            add_ring(&turns, rings->store + 2 * place, n, r);
     }
     return turns;
 }
@@ -60,18 +74,18 @@ static struct plain_point point_near(const int32_t *ring, size_t n)
 }
 
 /* Near the outline or near a ring of the store. */
-static struct plain_point some_point(const struct lists *l)
+static struct plain_point some_point(const struct rings *rings)
 {
-    size_t d = below(PLAIN_NUMBERS), n = l->runs[SIZES + d];
+    size_t d = below(PLAIN_NUMBERS), n = rings->runs[SIZES + d];
     if (n == 0 || once_in(3))
-        return point_near(l->outline, l->runs[0]);
-    return point_near(l->store + 2 * (size_t)l->runs[PLACES + d], n);
+        return point_near(rings->outline, rings->runs[0]);
+    return point_near(rings->store + 2 * (size_t)rings->runs[PLACES + d], n);
 }
 
-static bool holds_at(const struct lists *l, struct plain_point r)
+static bool holds_at(const struct rings *rings, struct plain_point r)
 {
-    struct turns outer = {false, 0, 0}, inner = of_districts(l, r);
-    add_ring(&outer, l->outline, l->runs[0], r);
+    struct turns outer = {false, 0, 0}, inner = of_districts(rings, r);
+    add_ring(&outer, rings->outline, rings->runs[0], r);
     if (inner.on_ring || outer.on_ring)
         return true;
     asked++;
@@ -86,8 +100,12 @@ static bool holds_at(const struct lists *l, struct plain_point r)
 
 bool sums_hold(const struct lists *l)
 {
+    static struct rings rings;
+    pair(rings.outline, l->column[OUTLINE_X], l->column[OUTLINE_Y]);
+    pair(rings.store, l->column[STORE_X], l->column[STORE_Y]);
+    rings.runs = l->runs;
     for (int t = 0; t < POINTS_AFTER_A_CHANGE; t++)
-        if (!holds_at(l, some_point(l)))
+        if (!holds_at(&rings, some_point(&rings)))
             return false;
     return true;
 }

@@ -1,5 +1,5 @@
 /* What splits and merges keep: at every point off all rings the winding numbers about the districts add up to that about the outline. It is
- * asked of the library alone, by launchramp_locate on the rings as they stand in the lists. */
+ * asked of the library alone, by launchramp_locate on the rings that the lists hold. */
 #ifndef SUMS_H
 #define SUMS_H
 

@@ -12,7 +12,10 @@ use Rattle.ring.specs.declared.Point.{Point}
 use Rattle.ring.specs.Grid.{vertices, someBeyond}
 use Rattle.districts.specs.Register.{slot, verticesOf}
 use Rattle.districts.specs.Lists.{outlineSize, firstPlace, size, part, meaning}
-use Rattle.districts.specs.WellFormed.{total, wellFormed}
+use Rattle.districts.specs.WellFormed.{total}
+use Rattle.districts.specs.Lent.{Lists, lent, outlineOf, storeOf, formed, means}
+use Rattle.districts.proofs.Sound.{outline-lengths}
+use Rattle.ring.specs.Columns.{points}
 use Rattle.refusals.specs.Verdicts.{accept, verdict}
 use Rattle.districts.proofs.Lent.{outline-in-use}
 use Rattle.refusals.proofs.Verdicts.{accepted}
@@ -23,13 +26,15 @@ use Rattle.changes.specs.Afterwards.{split}
 use Rattle.judging.specs.Judging.{lowestFree}
 use Rattle.room.specs.Writing.{numbersOf}
 use Rattle.changes.specs.Performing.{Divided}
+use Rattle.room.proofs.Forms as Forms
 use Rattle.room.proofs.Forms.{Sound, sound}
+use Rattle.room.proofs.Parts.{both-on-grid}
 use Rattle.room.proofs.Written.{numbers-vertices}
-use Rattle.changes.proofs.Grids.{run-on-grid, reverse-on-grid, both-on-grid}
+use Rattle.changes.proofs.Grids.{run-on-grid, reverse-on-grid}
 use Rattle.judging.proofs.Sums.{steps-round}
 use Rattle.judging.proofs.Judged.{used-is, used-below, ring-of, ring-on-grid, length-of, one-long, two-long, free-is, count-is}
 use Rattle.judging.proofs.Told.{Splittable, split-told}
-use Rattle.changes.proofs.Splits.{divided-well-formed, divided-meaning}
+use Rattle.changes.proofs.Splits.{divided-sound, divided-meaning}
 use Rattle.room.proofs.Additions.{given}
 
 -- what an acceptance tells of the lists' numbers
@@ -44,21 +49,30 @@ pub record Free (runs : List ℕ) (d i j : ℕ) (path : List ℤ) : Type 0 where
   pub number : lowestFree runs < 64
   pub room : total runs + 2 + length path ≤ 2048
 
-module _ (outline store : List ℤ) (runs : List ℕ) (d i j : ℕ) (path : List ℤ)
-    (yes : verdict (splitTests (wellFormed outline store runs) (meaning outline store runs) d i j path) ≡ accept) where
-  pub right : wellFormed outline store runs ≡ true
+module _ (l : Lists) (d i j : ℕ) (path : List ℤ)
+    (yes : verdict (splitTests (formed l) (means l) d i j path) ≡ accept) where
+  abbrev outline : List Point
+  outline = outlineOf l
+
+  abbrev store : List Point
+  store = storeOf l
+
+  abbrev runs : List ℕ
+  runs = l .runs
+
+  pub right : formed l ≡ true
   right = not-false _ (accepted 1 _ _ yes .0)
 
-  pub facts : Sound outline store runs
-  facts = sound outline store runs right
+  pub facts : Sound (outlineOf l) (storeOf l) (l .runs)
+  facts = sound l right
 
-  told : Splittable (meaning outline store runs) d i j path
-  told = split-told (wellFormed outline store runs) (meaning outline store runs) d i j path yes
+  told : Splittable (means l) d i j path
+  told = split-told (formed l) (means l) d i j path yes
 
-  pub free : Free runs d i j path
+  pub free : Free (l .runs) d i j path
   free =
-      let n = length-of outline store runs right d in
-      let in-use = not-true (eqb (size runs d) 0) (sym (used-is outline store runs right d) ∙ told .used) in
+      let n = length-of outline store runs facts d in
+      let in-use = not-true (eqb (size runs d) 0) (sym (used-is outline store runs facts d) ∙ told .used) in
       let outlined = not-true (eqb (outlineSize runs) 0) (sym (outline-in-use outline store runs) ∙ told .outlined) in
       record {
         some = let none = eqb-false (outlineSize runs) 0 outlined in omega (arith, none);
@@ -68,37 +82,37 @@ module _ (outline store : List ℤ) (runs : List ℕ) (d i j : ℕ) (path : List
         differ = told .differ;
         even = told .even;
         grid = told .grid;
-        number = omega (arith, free-is outline store runs right, told .number);
-        room = omega (arith, count-is outline store runs right, told .room);
+        number = omega (arith, free-is outline store runs facts, told .number);
+        room = omega (arith, count-is outline store runs facts, told .room);
       }
 
   -- the ring of the district, and its pieces
   P : List Point
-  P = vertices (part store (firstPlace runs d) (size runs d))
+  P = part store (firstPlace runs d) (size runs d)
 
   W : List Point
   W = vertices path
 
   ring-is : verticesOf (slot (meaning outline store runs) d) ≡ P
   unfolding P
-  ring-is = ring-of outline store runs right d (free .used)
+  ring-is = ring-of outline store runs facts d (free .used)
 
   one-is : length (pieceOne P i j W) ≡ suc (steps (size runs d) i j) + length path / 2
   unfolding P W
-  one-is = ap (λ Q. length (pieceOne Q i j W)) (sym ring-is) ∙ one-long outline store runs right d i j path
+  one-is = ap (λ Q. length (pieceOne Q i j W)) (sym ring-is) ∙ one-long outline store runs facts d i j path
 
   two-is : length (pieceTwo P i j W) ≡ suc (steps (size runs d) j i) + length path / 2
   unfolding P W
-  two-is = ap (λ Q. length (pieceTwo Q i j W)) (sym ring-is) ∙ two-long outline store runs right d i j path
+  two-is = ap (λ Q. length (pieceTwo Q i j W)) (sym ring-is) ∙ two-long outline store runs facts d i j path
 
   below : d < 64
-  below = used-below outline store runs right d (free .used)
+  below = used-below outline store runs facts d (free .used)
 
-  pub fits : firstPlace runs d + size runs d ≤ total runs
+  pub fits : firstPlace (l .runs) d + size (l .runs) d ≤ total (l .runs)
   fits = let some = free .used in facts .inside d below (omega (arith, some))
 
-  store-grid : someBeyond (part store (firstPlace runs d) (size runs d)) ≡ false
-  store-grid = ring-on-grid outline store runs right d (free .used)
+  store-grid : someBeyond (numbersOf (part store (firstPlace runs d) (size runs d))) ≡ false
+  store-grid = ring-on-grid outline store runs facts d (free .used)
 
   path-grid : someBeyond (numbersOf W) ≡ false
   unfolding W
@@ -121,7 +135,7 @@ module _ (outline store : List ℤ) (runs : List ℕ) (d i j : ℕ) (path : List
       let e = free .even in
       omega (arith, one-is, two-is, round, room, e)
 
-  module _ (store′ : List ℤ) (runs′ : List ℕ) (v : Divided store runs d (lowestFree runs) (pieceOne P i j W) (pieceTwo P i j W) store′ runs′) where
+  module _ (store′ : List Point) (runs′ : List ℕ) (v : Divided store runs d (lowestFree runs) (pieceOne P i j W) (pieceTwo P i j W) store′ runs′) where
     used′ : 0 < size runs d
     used′ = let some = free .used in omega (arith, some)
 
@@ -129,26 +143,25 @@ module _ (outline store : List ℤ) (runs : List ℕ) (d i j : ℕ) (path : List
     unfolding W
     least = (subst (λ Q. 3 ≤ length (pieceOne Q i j W)) ring-is (told .first), subst (λ Q. 3 ≤ length (pieceTwo Q i j W)) ring-is (told .second))
 
-    well : wellFormed outline store′ runs′ ≡ true
-    well = divided-well-formed outline store runs d (lowestFree runs) (pieceOne P i j W) (pieceTwo P i j W) store′ runs′ right (free .some) below used′ (free .number) unused-number least room-for grids v
+    still : Sound outline store′ runs′
+    still = divided-sound outline store runs d (lowestFree runs) (pieceOne P i j W) (pieceTwo P i j W) store′ runs′ facts (free .some) below used′ (free .number) unused-number least room-for grids v
 
     sense : meaning outline store′ runs′ ≡ split (meaning outline store runs) d i j (vertices path)
     unfolding W split
     sense =
-        divided-meaning outline store runs d (lowestFree runs) (pieceOne P i j W) (pieceTwo P i j W) store′ runs′ right (free .some) below used′ (free .number) unused-number least room-for grids v
-        ∙ (λ t. given (given (meaning outline store runs) d (pieceOne (sym ring-is t) i j W)) (sym (free-is outline store runs right) t) (pieceTwo (sym ring-is t) i j W))
+        divided-meaning outline store runs d (lowestFree runs) (pieceOne P i j W) (pieceTwo P i j W) store′ runs′ facts (free .some) below used′ (free .number) unused-number least room-for grids v
+        ∙ (λ t. given (given (meaning outline store runs) d (pieceOne (sym ring-is t) i j W)) (sym (free-is outline store runs facts) t) (pieceTwo (sym ring-is t) i j W))
 
   pub split-below : d < 64
   split-below = below
 
-  pub split-well-formed : (store′ : List ℤ) (runs′ : List ℕ)
-      → Divided store runs d (lowestFree runs) (pieceOne (vertices (part store (firstPlace runs d) (size runs d))) i j (vertices path)) (pieceTwo (vertices (part store (firstPlace runs d) (size runs d))) i j (vertices path)) store′ runs′
-      → wellFormed outline store′ runs′ ≡ true
-  unfolding P W
-  split-well-formed = well
+  -- the lists afterwards
+  module _ (sx sy : List ℤ) (runs′ : List ℕ) (long : (length sx ≡ 2048) × (length sy ≡ 2048))
+      (v : Divided (storeOf l) (l .runs) d (lowestFree (l .runs)) (pieceOne (part (storeOf l) (firstPlace (l .runs) d) (size (l .runs) d)) i j (vertices path)) (pieceTwo (part (storeOf l) (firstPlace (l .runs) d) (size (l .runs) d)) i j (vertices path)) (points sx sy) runs′) where
+    pub split-well-formed : formed (lent (l .ox) (l .oy) sx sy runs′) ≡ true
+    unfolding P W
+    split-well-formed = Forms.formed (lent (l .ox) (l .oy) sx sy runs′) (record { outline = outline-lengths l right; store = long }) (still (points sx sy) runs′ v)
 
-  pub split-meaning : (store′ : List ℤ) (runs′ : List ℕ)
-      → Divided store runs d (lowestFree runs) (pieceOne (vertices (part store (firstPlace runs d) (size runs d))) i j (vertices path)) (pieceTwo (vertices (part store (firstPlace runs d) (size runs d))) i j (vertices path)) store′ runs′
-      → meaning outline store′ runs′ ≡ split (meaning outline store runs) d i j (vertices path)
-  unfolding P W
-  split-meaning = sense
+    pub split-meaning : means (lent (l .ox) (l .oy) sx sy runs′) ≡ split (means l) d i j (vertices path)
+    unfolding P W
+    split-meaning = sense (points sx sy) runs′ v

@@ -17,7 +17,7 @@ use Rattle.ring.proofs.Search.{lowest-is}
 use Rattle.districts.specs.Register.{Slot, unused, ring, Register, slot, inUse, verticesOf}
 use Rattle.districts.proofs.Meaning.{all-numbers}
 use Rattle.refusals.specs.Verdicts.{Verdict, accept, verdict}
-use Rattle.districts.specs.Lent.{Lists, formed, means, Leaves}
+use Rattle.districts.specs.Lent.{Lists, outlineOf, storeOf, formed, means, Leaves}
 use Rattle.refusals.proofs.Verdicts.{accepted}
 use Rattle.changes.specs.declared.Changed.the-variants.{Done}
 use Rattle.judging.specs.Splitting.{pieceOne, pieceTwo, lowestUnused, splitTests}
@@ -60,7 +60,7 @@ split-changes e d i j path before after c = apart (means after) (means before) n
     one = set (g .districts) d (ring (pieceOne (verticesOf (slot g d)) i j (vertices path)))
 
     long : length one ≡ 64
-    long = length-set (g .districts) d (ring (pieceOne (verticesOf (slot g d)) i j (vertices path))) ∙ all-numbers (before .outline) (before .store) (before .runs)
+    long = length-set (g .districts) d (ring (pieceOne (verticesOf (slot g d)) i j (vertices path))) ∙ all-numbers (outlineOf before) (storeOf before) (before .runs)
 
     used : inUse (slot (means after) new) ≡ true
     used = ap (λ h. inUse (slot h new)) (given .1) ∙ ap inUse (getD-set-same one new (ring (pieceTwo (verticesOf (slot g d)) i j (vertices path))) unused (omega (arith, below, long)))
@@ -83,12 +83,12 @@ merge-changes e A a B b k before after c same = apart (means before) (means afte
     kept = set (g .districts) A (ring (merged (verticesOf (slot g A)) a (verticesOf (slot g B)) b k))
 
     long : length kept ≡ 64
-    long = length-set (g .districts) A (ring (merged (verticesOf (slot g A)) a (verticesOf (slot g B)) b k)) ∙ all-numbers (before .outline) (before .store) (before .runs)
+    long = length-set (g .districts) A (ring (merged (verticesOf (slot g A)) a (verticesOf (slot g B)) b k)) ∙ all-numbers (outlineOf before) (storeOf before) (before .runs)
 
     below : B < 64
     below = elim (decLt B 64) [
       | yes less ↦ less
-      | no more ↦ absurd (apart g g B used (ap inUse (List·getD-eq-default (g .districts) unused (omega (arith, more, all-numbers (before .outline) (before .store) (before .runs))))) refl)
+      | no more ↦ absurd (apart g g B used (ap inUse (List·getD-eq-default (g .districts) unused (omega (arith, more, all-numbers (outlineOf before) (storeOf before) (before .runs))))) refl)
     ]
 
     free : inUse (slot (means after) B) ≡ false

@@ -3,10 +3,9 @@
 use Prim.Native.Nat.{ℕ, suc, _+_, _-_, _%_, _≤_, _<_}
 use native.Mathlib.Omega.{arith}
 use mathlib.Core.Path.{_≡_, sym, ap, _∙_}
-use mathlib.Core.Bool.{true, false}
+use mathlib.Core.Bool.{false}
 use mathlib.Core.List.{List, _++_}
 use mathlib.Core.Logic.{_⊎_, inl, inr}
-use lib.IntN.{ℤ}
 use lib.ListN.{length, set}
 use lib.Seq.{set-set, set-comm}
 use borrow.Author.Tests.{le-leb, lt-leb}
@@ -15,12 +14,13 @@ use Rattle.ring.specs.Grid.{someBeyond}
 use Rattle.ring.proofs.Pick.{pick-true, pick-false}
 use Rattle.districts.specs.Register.{Slot, unused, ring, Register}
 use Rattle.districts.specs.Lists.{outlineSize, firstPlace, size, meaning}
-use Rattle.districts.specs.WellFormed.{total, wellFormed}
+use Rattle.districts.specs.WellFormed.{total}
 use Rattle.room.specs.Runs.{run}
 use Rattle.room.specs.Writing.{numbersOf, Left}
 use Rattle.room.proofs.Written.{run-rest}
-use Rattle.room.proofs.Leaving.{left-total, left-well-formed, left-meaning}
-use Rattle.room.proofs.Additions.{given, added-well-formed, added-meaning}
+use Rattle.room.proofs.Forms.{Sound}
+use Rattle.room.proofs.Leaving.{left-total, left-sound, left-meaning}
+use Rattle.room.proofs.Additions.{given, added-sound, added-meaning}
 use Rattle.judging.specs.Merging.{merged}
 use Rattle.changes.specs.Performing.{Pair, Joined}
 
@@ -35,7 +35,7 @@ merged-is P Q a b n m k first e f g =
 
 -- ---- the first has left
 
-module _ (store : List ℤ) (runs : List ℕ) (A B : ℕ) (p : Pair store runs A B) (store₁ : List ℤ) (runs₁ : List ℕ) (l : Left store runs A store₁ runs₁) where
+module _ (store : List Point) (runs : List ℕ) (A B : ℕ) (p : Pair runs A B) (store₁ : List Point) (runs₁ : List ℕ) (l : Left store runs A store₁ runs₁) where
   other : B ≡ A → ⊥
   other e = p .differ (sym e)
 
@@ -62,12 +62,12 @@ module _ (store : List ℤ) (runs : List ℕ) (A B : ℕ) (p : Pair store runs A
 
 -- ---- both have left, and the result is taken
 
-module _ (outline store : List ℤ) (runs : List ℕ) (A B : ℕ) (P : List Point) (store′ : List ℤ) (runs′ : List ℕ)
-    (good : wellFormed outline store runs ≡ true) (some : 0 < outlineSize runs) (p : Pair store runs A B)
+module _ (outline store : List Point) (runs : List ℕ) (A B : ℕ) (P : List Point) (store′ : List Point) (runs′ : List ℕ)
+    (good : Sound outline store runs) (some : 0 < outlineSize runs) (p : Pair runs A B)
     (least : 3 ≤ length P) (room : length P ≤ size runs A + size runs B) (grid : someBeyond (numbersOf P) ≡ false)
     (v : Joined store runs A B P store′ runs′) where
-  good₁ : wellFormed outline (v .store₁) (v .runs₁) ≡ true
-  good₁ = left-well-formed outline store runs A (v .store₁) (v .runs₁) good (p .first) (p .some) (v .first)
+  good₁ : Sound outline (v .store₁) (v .runs₁)
+  good₁ = left-sound outline store runs A (v .store₁) (v .runs₁) good (p .first) (p .some) (v .first)
 
   size₁ : size (v .runs₁) B ≡ size runs B
   size₁ = second-size store runs A B p (v .store₁) (v .runs₁) (v .first)
@@ -75,8 +75,8 @@ module _ (outline store : List ℤ) (runs : List ℕ) (A B : ℕ) (P : List Poin
   used₁ : 0 < size (v .runs₁) B
   used₁ = omega (arith, size₁, p .more)
 
-  good₂ : wellFormed outline (v .store₂) (v .runs₂) ≡ true
-  good₂ = left-well-formed outline (v .store₁) (v .runs₁) B (v .store₂) (v .runs₂) good₁ (p .second) used₁ (v .second)
+  good₂ : Sound outline (v .store₂) (v .runs₂)
+  good₂ = left-sound outline (v .store₁) (v .runs₁) B (v .store₂) (v .runs₂) good₁ (p .second) used₁ (v .second)
 
   some₂ : 0 < outlineSize (v .runs₂)
   some₂ = omega (arith, some, v .first .outline-same, v .second .outline-same)
@@ -90,8 +90,8 @@ module _ (outline store : List ℤ) (runs : List ℕ) (A B : ℕ) (P : List Poin
       let total₂ = left-total (v .store₁) (v .runs₁) B (v .store₂) (v .runs₂) (p .second) (v .second) in
       omega (arith, total₁, total₂, size₁, room, p .most)
 
-  pub joined-well-formed : wellFormed outline store′ runs′ ≡ true
-  joined-well-formed = added-well-formed outline (v .store₂) (v .runs₂) A P store′ runs′ good₂ some₂ (p .first) free₂ least room₂ grid (v .taken)
+  pub joined-sound : Sound outline store′ runs′
+  joined-sound = added-sound outline (v .store₂) (v .runs₂) A P store′ runs′ good₂ some₂ (p .first) free₂ least room₂ grid (v .taken)
 
   slots : List Slot → Register
   slots l = record { outline = meaning outline store runs .outline; districts = l }

@@ -3,24 +3,24 @@
 use Prim.Native.Nat.{ℕ, _+_, _≤_, _<_}
 use native.Mathlib.Omega.{arith}
 use mathlib.Core.Path.{_≡_, ap, _∙_}
-use mathlib.Core.Bool.{true, false}
+use mathlib.Core.Bool.{false}
 use mathlib.Core.List.{List}
-use lib.IntN.{ℤ}
 use lib.ListN.{length}
 use lib.Seq.{set-set}
 use Rattle.ring.specs.declared.Point.{Point}
 use Rattle.ring.specs.Grid.{someBeyond}
 use Rattle.districts.specs.Register.{unused, ring, Register}
 use Rattle.districts.specs.Lists.{outlineSize, size, meaning}
-use Rattle.districts.specs.WellFormed.{total, wellFormed}
+use Rattle.districts.specs.WellFormed.{total}
 use Rattle.room.specs.Writing.{numbersOf}
 use Rattle.changes.specs.Performing.{Divided}
 use Rattle.room.proofs.Entering.{entered-other-size, added-total}
-use Rattle.room.proofs.Additions.{given, added-well-formed, added-meaning, added-outline}
-use Rattle.room.proofs.Leaving.{left-total, left-well-formed, left-meaning}
+use Rattle.room.proofs.Additions.{given, added-sound, added-meaning, added-outline}
+use Rattle.room.proofs.Forms.{Sound}
+use Rattle.room.proofs.Leaving.{left-total, left-sound, left-meaning}
 
-module _ (outline store : List ℤ) (runs : List ℕ) (d e : ℕ) (one two : List Point) (store′ : List ℤ) (runs′ : List ℕ)
-    (good : wellFormed outline store runs ≡ true) (some : 0 < outlineSize runs)
+module _ (outline store : List Point) (runs : List ℕ) (d e : ℕ) (one two : List Point) (store′ : List Point) (runs′ : List ℕ)
+    (good : Sound outline store runs) (some : 0 < outlineSize runs)
     (below : d < 64) (used : 0 < size runs d) (other : e < 64) (free : size runs e ≡ 0)
     (least : (3 ≤ length one) × (3 ≤ length two)) (room : total runs + length one + length two ≤ 2048 + size runs d)
     (grid : (someBeyond (numbersOf one) ≡ false) × (someBeyond (numbersOf two) ≡ false))
@@ -31,8 +31,8 @@ module _ (outline store : List ℤ) (runs : List ℕ) (d e : ℕ) (one two : Lis
   differ : e ≡ d → ⊥
   differ f = let same : size runs e ≡ size runs d = ap (size runs) f in omega (arith, used, free)
 
-  good₁ : wellFormed outline (v .store₁) (v .runs₁) ≡ true
-  good₁ = left-well-formed outline store runs d (v .store₁) (v .runs₁) good below used (v .left)
+  good₁ : Sound outline (v .store₁) (v .runs₁)
+  good₁ = left-sound outline store runs d (v .store₁) (v .runs₁) good below used (v .left)
 
   total₁ : total (v .runs₁) + size runs d ≡ total runs
   total₁ = left-total store runs d (v .store₁) (v .runs₁) below (v .left)
@@ -43,8 +43,8 @@ module _ (outline store : List ℤ) (runs : List ℕ) (d e : ℕ) (one two : Lis
   room₁ : total (v .runs₁) + length one ≤ 2048
   room₁ = omega (arith, total₁, room)
 
-  good₂ : wellFormed outline (v .store₂) (v .runs₂) ≡ true
-  good₂ = added-well-formed outline (v .store₁) (v .runs₁) d one (v .store₂) (v .runs₂) good₁ some₁ below (v .left .gone) (least .0) room₁ (grid .0) (v .first)
+  good₂ : Sound outline (v .store₂) (v .runs₂)
+  good₂ = added-sound outline (v .store₁) (v .runs₁) d one (v .store₂) (v .runs₂) good₁ some₁ below (v .left .gone) (least .0) room₁ (grid .0) (v .first)
 
   total₂ : total (v .runs₂) ≡ total (v .runs₁) + length one
   total₂ = added-total (v .store₁) (v .runs₁) d one (v .store₂) (v .runs₂) (v .left .long-runs) below (v .left .gone) (v .first)
@@ -62,8 +62,8 @@ module _ (outline store : List ℤ) (runs : List ℕ) (d e : ℕ) (one two : Lis
   room₂ : total (v .runs₂) + length two ≤ 2048
   room₂ = omega (arith, total₁, total₂, room)
 
-  pub divided-well-formed : wellFormed outline store′ runs′ ≡ true
-  divided-well-formed = added-well-formed outline (v .store₂) (v .runs₂) e two store′ runs′ good₂ some₂ other free₂ (least .1) room₂ (grid .1) (v .second)
+  pub divided-sound : Sound outline store′ runs′
+  divided-sound = added-sound outline (v .store₂) (v .runs₂) e two store′ runs′ good₂ some₂ other free₂ (least .1) room₂ (grid .1) (v .second)
 
   pub divided-meaning : meaning outline store′ runs′ ≡ given (given (meaning outline store runs) d one) e two
   unfolding g

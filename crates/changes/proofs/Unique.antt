@@ -25,6 +25,9 @@ code-back : (r : Changed) → codeOf (answerOf r) ≡ r
 code-back (Done d) = refl
 code-back (Refused r) = ap Refused (refusal-back r)
 
+pub answer-injective : (r s : Changed) → answerOf r ≡ answerOf s → r ≡ s
+answer-injective r s e = sym (code-back r) ∙ ap codeOf e ∙ code-back s
+
 -- two outcomes of one change give the same answer and leave the same register
 pub record Same (r s : Changed) (after after′ : Lists) : Type 0 where
   pub answer : r ≡ s
@@ -34,7 +37,7 @@ pub record Same (r s : Changed) (after after′ : Lists) : Type 0 where
 one-change : (v : Verdict) (d : ℕ) (g : Register) (r s : Changed) (before after after′ : Lists) → ChangedBy v d g r before after → ChangedBy v d g s before after′ → Same r s after after′
 one-change v d g r s before after after′ f h =
     let l = both-left v v refl g before after after′ (f .left) (h .left) in
-    record { answer = sym (code-back r) ∙ ap codeOf (f .said ∙ sym (h .said)) ∙ code-back s; meaning = l .0; form = l .1 }
+    record { answer = answer-injective r s (f .said ∙ sym (h .said)); meaning = l .0; form = l .1 }
 
 pub one-splitting : (r s : Changed) (d i j : ℕ) (path : List ℤ) (before after after′ : Lists) → SplitBy r d i j path before after → SplitBy s d i j path before after′ → Same r s after after′
 one-splitting r s d i j path before after after′ = one-change _ _ _ r s before after after′

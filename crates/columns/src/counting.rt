@@ -11,7 +11,7 @@ ghost use lib.ListN.{length};
 ghost use Rattle.ring.specs.Columns.{points};
 ghost use Rattle.ring.specs.Rings.{at};
 ghost use Rattle.ring.specs.Walk.{headOf, mostTurns, Way, Sight, Counts, Aside, none, Counted};
-ghost use Rattle.columns.specs.Walk.{Clean, Ready};
+ghost use Rattle.columns.specs.Walk.{Clean, Ready, Beside};
 
 // The way to vertex i from the point that r leads to.
 pub fn way(xs: &[i32], ys: &[i32], r: exact::Arrow, i: usize) -> exact::Arrow
@@ -61,27 +61,34 @@ fn stretch(xs: &[i32], ys: &[i32], r: exact::Arrow, i: usize, k: usize, c: Count
     count
 }
 
-// Whether the vertices from vertex i to vertex i + k lie all north, all south, all east or all west of r. It reads them all, with no branch on
-// what it reads.
+// Whether the k + 1 numbers of a column from place i on lie all above or all below v. It reads them all, with no branch on what it reads.
+fn beside(column: &[i32], v: i32, i: usize, k: usize) -> bool
+    requires { ⌜ (i + k < length (now column)) × (length (now column) ≤ 2048) ⌝ }
+    ensures { λ m. ⌜ (m ≡ true → Beside (now (column .entry)) v i k) ⌝ }
+{
+    let mut above = true;
+    let mut below = true;
+    let mut j = 0;
+    while j <= k {
+        let p = column[i + j];
+        above = above & (v < p);
+        below = below & (p < v);
+        j += 1;
+    }
+    above | below
+}
+
+// Whether the vertices from vertex i to vertex i + k lie all north, all south, all east or all west of r. The row is asked first: most blocks that are
+// missed are missed by it.
 fn missed(xs: &[i32], ys: &[i32], r: Point, i: usize, k: usize) -> bool
     requires { ⌜ Clean (now xs) (now ys) r ⌝ }
     requires { ⌜ i + k < length (now xs) ⌝ }
     ensures { λ m. ⌜ (m ≡ true → Aside (points (now (xs .entry)) (now (ys .entry))) r i k) ⌝ }
 {
-    let mut north = true;
-    let mut south = true;
-    let mut east = true;
-    let mut west = true;
-    let mut j = 0;
-    while j <= k {
-        let p = vertex(xs, ys, i + j);
-        north = north & (r.y < p.y);
-        south = south & (p.y < r.y);
-        east = east & (r.x < p.x);
-        west = west & (p.x < r.x);
-        j += 1;
+    if beside(ys, r.y, i, k) {
+        return true;
     }
-    (north | south) | (east | west)
+    beside(xs, r.x, i, k)
 }
 
 // On from c along the k edges from vertex i, or past them.

@@ -43,6 +43,14 @@ sum-more f n s k e d = (λ i. e i + d i) ∙ ap (λ m. sumTo m f) (sym (add-one 
 pub sum-end : (f : ℕ → ℕ) (n d s : ℕ) → s ≡ sumTo d f → d ≤ n → n ≤ d → s ≡ sumTo n f
 sum-end f n d s e h k = let same : d ≡ n = omega arith in subst (λ (m : ℕ). s ≡ sumTo m f) same e
 
+sum-grows : (f : ℕ → ℕ) (d n : ℕ) → d ≤ n → sumTo d f ≤ sumTo n f
+unfolding sumTo
+sum-grows f d zero h = let same : d ≡ 0 = omega arith in subst (λ (m : ℕ). sumTo m f ≤ 0) (sym same) (omega arith)
+sum-grows f d (suc n) h = elim (ℕ-discrete d (suc n)) [
+  | yes same ↦ subst (λ (m : ℕ). sumTo m f ≤ sumTo n f + f n) (sym same) (omega arith)
+  | no other ↦ let t : sumTo d f ≤ sumTo n f = sum-grows f d n (omega arith) in omega arith
+]
+
 -- a term is at most the sum
 pub term-most : (f : ℕ → ℕ) (n k : ℕ) → k < n → f k ≤ sumTo n f
 unfolding sumTo
@@ -50,4 +58,13 @@ term-most f zero k h = absurd (let g : ⊥ = omega arith in g)
 term-most f (suc n) k h = elim (ℕ-discrete k n) [
   | yes same ↦ subst (λ (m : ℕ). f m ≤ sumTo n f + f n) (sym same) (omega arith)
   | no other ↦ let t : f k ≤ sumTo n f = term-most f n k (omega arith) in omega arith
+]
+
+-- what comes after the first d terms is in the sum beside them
+pub term-past : (f : ℕ → ℕ) (n d k : ℕ) → d ≤ k → k < n → sumTo d f + f k ≤ sumTo n f
+unfolding sumTo
+term-past f zero d k h l = absurd (let g : ⊥ = omega arith in g)
+term-past f (suc n) d k h l = elim (ℕ-discrete k n) [
+  | yes same ↦ subst (λ (m : ℕ). sumTo d f + f m ≤ sumTo n f + f n) (sym same) (let t : sumTo d f ≤ sumTo n f = sum-grows f d n (omega arith) in omega arith)
+  | no other ↦ let t : sumTo d f + f k ≤ sumTo n f = term-past f n d k h (omega arith) in omega arith
 ]

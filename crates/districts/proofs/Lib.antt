@@ -9,4 +9,4 @@ pub mod Meaning
 pub mod Unique
 pub mod Lent
 pub mod Begun
-pub mod Columns
+pub mod Pairs

@@ -1,6 +1,6 @@
 -- The table of the places where runs start, number after number. Assumes nothing.
 use Prim.Native.Nat.{ℕ, zero, suc, _+_, _≤_, _<_}
-use native.Mathlib.Decide.{ℕ-discrete}
+use native.Mathlib.Decide.{decLt, ℕ-discrete}
 use native.Mathlib.Omega.{arith}
 use mathlib.Core.Path.{_≡_, refl, sym, ap, subst, _∙_}
 use mathlib.Core.List.{List}
@@ -21,8 +21,16 @@ marked-none runs n e = record {
   none-missed = λ place d h s. absurd (let l = s .below in omega arith);
 }
 
-pub marked-end : (runs : List ℕ) (n : ℕ) (starts : List ℕ) → Marked runs n starts → n ≤ 64 → 64 ≤ n → Marked runs 64 starts
-marked-end runs n starts m h k = let same : n ≡ 64 = omega arith in subst (λ (d : ℕ). Marked runs d starts) same m
+-- the numbers from d on are unused
+pub marked-rest : (runs : List ℕ) (d : ℕ) (starts : List ℕ) → Marked runs d starts → d ≤ 64 → ((e : ℕ) → d ≤ e → e < 64 → size runs e ≡ 0) → Marked runs 64 starts
+marked-rest runs d starts m h none = record {
+  room = m .room;
+  right = λ place e f. let s = m .right place e f in let l = s .below in record { below = omega arith; used = s .used; there = s .there };
+  none-missed = λ place e k s. elim (decLt e d) [
+    | yes low ↦ m .none-missed place e k (record { below = low; used = s .used; there = s .there })
+    | no high ↦ absurd (let z = none e (omega arith) (s .below) in let u = s .used in let f : ⊥ = omega arith in f)
+  ];
+}
 
 module _ (runs : List ℕ) (d : ℕ) (starts : List ℕ) (before : Marked runs d starts) where
   -- a start of a number below d + 1 is that of a number below d, or d's own

@@ -10,13 +10,15 @@ use lib.IntN.{ℤ}
 use lib.ListN.{length, getD, take, drop, List·getD-eq-default}
 use lib.Seq.{take-take}
 use borrow.Author.Tests.{eq-eqb, ne-eqb}
-use Rattle.ring.specs.Grid.{beyond, someBeyond, vertices}
+use Rattle.ring.specs.declared.Point.{Point}
+use Rattle.ring.specs.Grid.{beyond, someBeyond}
 use Rattle.ring.specs.Choices.{pick}
 use Rattle.ring.proofs.Pick.{pick-true, pick-false, neither-left, neither-right}
 use Rattle.districts.specs.Counts.{listTo}
 use Rattle.districts.specs.Register.{unused, ring, slot}
 use Rattle.districts.specs.Lists.{outlineSize, firstPlace, size, part, held, district, meaning}
-use Rattle.districts.specs.WellFormed.{total, wellFormed}
+use Rattle.districts.specs.WellFormed.{total}
+use Rattle.districts.specs.Lent.{Lists, outlineOf, storeOf, formed, means}
 use Rattle.districts.proofs.Sound.{run-inside}
 
 -- ---- lists of so many
@@ -45,14 +47,14 @@ list-same (suc n) f g e = λ i. e 0 (omega arith) i ∷ list-same n (λ k. f (su
 
 -- ---- what a number has
 
-pub unused-when : (xs : List ℤ) (f n : ℕ) → n ≡ 0 → held xs f n ≡ unused
-unused-when xs f n e = pick-true (eq-eqb n 0 e) _ _
+pub unused-when : (P : List Point) (f n : ℕ) → n ≡ 0 → held P f n ≡ unused
+unused-when P f n e = pick-true (eq-eqb n 0 e) _ _
 
-pub ring-when : (xs : List ℤ) (f n : ℕ) → (n ≡ 0 → ⊥) → held xs f n ≡ ring (vertices (part xs f n))
-ring-when xs f n e = pick-false (ne-eqb n 0 e) _ _
+pub ring-when : (P : List Point) (f n : ℕ) → (n ≡ 0 → ⊥) → held P f n ≡ ring (part P f n)
+ring-when P f n e = pick-false (ne-eqb n 0 e) _ _
 
 -- a number's slot is what the runs say of it, above 63 too
-pub slot-is : (outline store : List ℤ) (runs : List ℕ) → length runs ≡ 129 → (d : ℕ) → slot (meaning outline store runs) d ≡ district store runs d
+pub slot-is : (outline store : List Point) (runs : List ℕ) → length runs ≡ 129 → (d : ℕ) → slot (meaning outline store runs) d ≡ district store runs d
 unfolding meaning
 slot-is outline store runs e d = elim (decLt d 64) [
   | yes h ↦ list-at 64 (district store runs) unused d h
@@ -60,7 +62,7 @@ slot-is outline store runs e d = elim (decLt d 64) [
       ∙ sym (unused-when store (firstPlace runs d) (size runs d) (List·getD-eq-default runs 0 (omega (arith, e))))
 ]
 
-pub all-numbers : (outline store : List ℤ) (runs : List ℕ) → length (meaning outline store runs .districts) ≡ 64
+pub all-numbers : (outline store : List Point) (runs : List ℕ) → length (meaning outline store runs .districts) ≡ 64
 unfolding meaning
 all-numbers outline store runs = list-long 64 (district store runs)
 
@@ -72,9 +74,9 @@ take-drop-take n (suc f) zero xs h = absurd (let g : ⊥ = omega arith in g)
 take-drop-take n (suc f) (suc t) [] h = refl
 take-drop-take n (suc f) (suc t) (x ∷ xs) h = take-drop-take n f t xs (omega arith)
 
--- a part within the first t vertices does not depend on what comes after them
-pub part-within : (xs : List ℤ) (f n t : ℕ) → f + n ≤ t → part (part xs 0 t) f n ≡ part xs f n
-part-within xs f n t h = take-drop-take (n + n) (f + f) (t + t) xs (omega arith)
+-- a part within the first t does not depend on what comes after them
+pub part-within : {A : Type 0} (l : List A) (f n t : ℕ) → f + n ≤ t → part (part l 0 t) f n ≡ part l f n
+part-within l f n t h = take-drop-take n f t l h
 
 take-on-grid : (k : ℕ) (xs : List ℤ) → someBeyond xs ≡ false → someBeyond (take k xs) ≡ false
 take-on-grid zero xs e = refl
@@ -87,36 +89,41 @@ drop-on-grid (suc k) [] e = refl
 drop-on-grid (suc k) (x ∷ xs) e = drop-on-grid k xs (neither-right (beyond x) (someBeyond xs) e)
 
 pub part-on-grid : (xs : List ℤ) (f n t : ℕ) → f + n ≤ t → someBeyond (part xs 0 t) ≡ false → someBeyond (part xs f n) ≡ false
-part-on-grid xs f n t h e = ap someBeyond (sym (part-within xs f n t h)) ∙ take-on-grid (n + n) (drop (f + f) (part xs 0 t)) (drop-on-grid (f + f) (part xs 0 t) e)
+part-on-grid xs f n t h e = ap someBeyond (sym (part-within xs f n t h)) ∙ take-on-grid n (drop f (part xs 0 t)) (drop-on-grid f (part xs 0 t) e)
 
 -- ---- the free room
 
 -- the lists agree in what is used: the counts, the first places of used numbers, and the used parts
-pub record SameUsed (outline store : List ℤ) (runs : List ℕ) (outline′ store′ : List ℤ) (runs′ : List ℕ) : Type 0 where
-  pub outline-size : outlineSize runs′ ≡ outlineSize runs
-  pub sizes : (d : ℕ) → d < 64 → size runs′ d ≡ size runs d
-  pub places : (d : ℕ) → d < 64 → 0 < size runs d → firstPlace runs′ d ≡ firstPlace runs d
-  pub outline-part : part outline′ 0 (outlineSize runs) ≡ part outline 0 (outlineSize runs)
-  pub store-part : part store′ 0 (total runs) ≡ part store 0 (total runs)
+pub record SameUsed (l l′ : Lists) : Type 0 where
+  pub outline-size : outlineSize (l′ .runs) ≡ outlineSize (l .runs)
+  pub sizes : (d : ℕ) → d < 64 → size (l′ .runs) d ≡ size (l .runs) d
+  pub places : (d : ℕ) → d < 64 → 0 < size (l .runs) d → firstPlace (l′ .runs) d ≡ firstPlace (l .runs) d
+  pub outline-part : part (outlineOf l′) 0 (outlineSize (l .runs)) ≡ part (outlineOf l) 0 (outlineSize (l .runs))
+  pub store-part : part (storeOf l′) 0 (total (l .runs)) ≡ part (storeOf l) 0 (total (l .runs))
 
-module _ (outline store : List ℤ) (runs : List ℕ) (outline′ store′ : List ℤ) (runs′ : List ℕ)
-    (good : wellFormed outline store runs ≡ true) (s : SameUsed outline store runs outline′ store′ runs′) where
-  same-district : (d : ℕ) → d < 64 → district store′ runs′ d ≡ district store runs d
+module _ (l l′ : Lists) (good : formed l ≡ true) (s : SameUsed l l′) where
+  abbrev runs : List ℕ
+  runs = l .runs
+
+  abbrev runs′ : List ℕ
+  runs′ = l′ .runs
+
+  same-district : (d : ℕ) → d < 64 → district (storeOf l′) runs′ d ≡ district (storeOf l) runs d
   same-district d h = elim (ℕ-discrete (size runs d) 0) [
-    | yes e ↦ unused-when store′ (firstPlace runs′ d) (size runs′ d) (s .sizes d h ∙ e) ∙ sym (unused-when store (firstPlace runs d) (size runs d) e)
+    | yes e ↦ unused-when (storeOf l′) (firstPlace runs′ d) (size runs′ d) (s .sizes d h ∙ e) ∙ sym (unused-when (storeOf l) (firstPlace runs d) (size runs d) e)
     | no e ↦
         let used : 0 < size runs d = omega arith in
-        let fits = run-inside outline store runs good d h used in
-        (λ i. held store′ (s .places d h used i) (s .sizes d h i))
-        ∙ (λ i. pick (eqb (size runs d) 0) unused (ring (vertices (
-        (sym (part-within store′ (firstPlace runs d) (size runs d) (total runs) fits)
-        ∙ ap (λ xs. part xs (firstPlace runs d) (size runs d)) (s .store-part)
-        ∙ part-within store (firstPlace runs d) (size runs d) (total runs) fits) i))))
+        let fits = run-inside l good d h used in
+        (λ i. held (storeOf l′) (s .places d h used i) (s .sizes d h i))
+        ∙ (λ i. pick (eqb (size runs d) 0) unused (ring (
+        (sym (part-within (storeOf l′) (firstPlace runs d) (size runs d) (total runs) fits)
+        ∙ ap (λ P. part P (firstPlace runs d) (size runs d)) (s .store-part)
+        ∙ part-within (storeOf l) (firstPlace runs d) (size runs d) (total runs) fits) i)))
   ]
 
-  pub free-room-means-nothing : meaning outline′ store′ runs′ ≡ meaning outline store runs
+  pub free-room-means-nothing : means l′ ≡ means l
   unfolding meaning
   free-room-means-nothing = λ i. record {
-    outline = ((λ j. held outline′ 0 (s .outline-size j)) ∙ (λ j. pick (eqb (outlineSize runs) 0) unused (ring (vertices (s .outline-part j))))) i;
-    districts = list-same 64 (district store′ runs′) (district store runs) same-district i;
+    outline = ((λ j. held (outlineOf l′) 0 (s .outline-size j)) ∙ (λ j. pick (eqb (outlineSize runs) 0) unused (ring (s .outline-part j)))) i;
+    districts = list-same 64 (district (storeOf l′) runs′) (district (storeOf l) runs) same-district i;
   }

@@ -12,7 +12,8 @@ use borrow.Author.Tests.{eqb-true, leb-true, not-true}
 use Rattle.ring.specs.Grid.{someBeyond}
 use Rattle.districts.specs.Counts.{allTo}
 use Rattle.districts.specs.Lists.{outlineSize, firstPlace, size, part}
-use Rattle.districts.specs.WellFormed.{shaped, sized, total, packed, counted, onGrid, wellFormed}
+use Rattle.districts.specs.WellFormed.{shaped, sized, total, packed, counted, within, onGrid, wellFormed}
+use Rattle.districts.specs.Lent.{Lists, formed}
 use Rattle.districts.proofs.Tests.{both-left, both-right, either}
 use Rattle.districts.proofs.Counting.{all-each}
 use Rattle.districts.proofs.Tiles.{packed-tiles}
@@ -31,6 +32,21 @@ size-most n e = say (allowed-size n e)
     say : (n ≡ 0) ⊎ ((3 ≤ n) × (n ≤ 2048)) → n ≤ 2048
     say (inl f) = omega arith
     say (inr f) = f .1
+
+two-lengths : (xs ys : List ℤ) → (eqb (length xs) 2048 && eqb (length ys) 2048) ≡ true → (length xs ≡ 2048) × (length ys ≡ 2048)
+two-lengths xs ys e = (eqb-true (length xs) 2048 (both-left (eqb (length xs) 2048) _ e), eqb-true (length ys) 2048 (both-right (eqb (length xs) 2048) _ e))
+
+pub shape-told : (ox oy sx sy : List ℤ) (runs : List ℕ) → shaped ox oy sx sy runs ≡ true
+    → ((length ox ≡ 2048) × (length oy ≡ 2048)) × ((length sx ≡ 2048) × (length sy ≡ 2048)) × (length runs ≡ 129)
+shape-told ox oy sx sy runs e =
+    let rest = both-right (eqb (length ox) 2048 && eqb (length oy) 2048) _ e in (
+      two-lengths ox oy (both-left (eqb (length ox) 2048 && eqb (length oy) 2048) _ e),
+      two-lengths sx sy (both-left (eqb (length sx) 2048 && eqb (length sy) 2048) _ rest),
+      eqb-true (length runs) 129 (both-right (eqb (length sx) 2048 && eqb (length sy) 2048) _ rest),
+    )
+
+within-told : (xs ys : List ℤ) (n : ℕ) → within xs ys n ≡ true → (someBeyond (part xs 0 n) ≡ false) × (someBeyond (part ys 0 n) ≡ false)
+within-told xs ys n e = (not-true _ (both-left (not (someBeyond (part xs 0 n))) _ e), not-true _ (both-right (not (someBeyond (part xs 0 n))) _ e))
 
 -- the counts
 module _ (runs : List ℕ) (e : counted runs ≡ true) where
@@ -55,23 +71,26 @@ module _ (runs : List ℕ) (e : counted runs ≡ true) where
       say (inr g) = eqb-true (total runs) 0 g
 
 -- the whole
-module _ (outline store : List ℤ) (runs : List ℕ) (e : wellFormed outline store runs ≡ true) where
-  pub right-shape : shaped outline store runs ≡ true
+module _ (l : Lists) (e : formed l ≡ true) where
+  abbrev runs : List ℕ
+  runs = l .runs
+
+  right-shape : shaped (l .ox) (l .oy) (l .sx) (l .sy) runs ≡ true
   unfolding wellFormed
-  right-shape = both-left (shaped outline store runs) _ e
+  right-shape = both-left (shaped (l .ox) (l .oy) (l .sx) (l .sy) runs) _ e
 
-  rest : (counted runs && (packed runs && onGrid outline store runs)) ≡ true
+  rest : (counted runs && (packed runs && onGrid (l .ox) (l .oy) (l .sx) (l .sy) runs)) ≡ true
   unfolding wellFormed
-  rest = both-right (shaped outline store runs) _ e
+  rest = both-right (shaped (l .ox) (l .oy) (l .sx) (l .sy) runs) _ e
 
-  pub outline-length : length outline ≡ 4096
-  outline-length = eqb-true (length outline) 4096 (both-left (eqb (length outline) 4096) _ right-shape)
+  pub outline-lengths : (length (l .ox) ≡ 2048) × (length (l .oy) ≡ 2048)
+  outline-lengths = shape-told (l .ox) (l .oy) (l .sx) (l .sy) runs right-shape .0
 
-  pub store-length : length store ≡ 4096
-  store-length = eqb-true (length store) 4096 (both-left (eqb (length store) 4096) _ (both-right (eqb (length outline) 4096) _ right-shape))
+  pub store-lengths : (length (l .sx) ≡ 2048) × (length (l .sy) ≡ 2048)
+  store-lengths = shape-told (l .ox) (l .oy) (l .sx) (l .sy) runs right-shape .1
 
   pub runs-length : length runs ≡ 129
-  runs-length = eqb-true (length runs) 129 (both-right (eqb (length store) 4096) _ (both-right (eqb (length outline) 4096) _ right-shape))
+  runs-length = shape-told (l .ox) (l .oy) (l .sx) (l .sy) runs right-shape .2
 
   pub right-counts : counted runs ≡ true
   right-counts = both-left (counted runs) _ rest
@@ -83,11 +102,11 @@ module _ (outline store : List ℤ) (runs : List ℕ) (e : wellFormed outline st
   pub run-inside : (d : ℕ) → d < 64 → 0 < size runs d → firstPlace runs d + size runs d ≤ total runs
   run-inside = packed-tiles runs right-packing .within
 
-  grid : (not (someBeyond (part outline 0 (outlineSize runs))) && not (someBeyond (part store 0 (total runs)))) ≡ true
+  grid : (within (l .ox) (l .oy) (outlineSize runs) && within (l .sx) (l .sy) (total runs)) ≡ true
   grid = both-right (packed runs) _ (both-right (counted runs) _ rest)
 
-  pub outline-on-grid : someBeyond (part outline 0 (outlineSize runs)) ≡ false
-  outline-on-grid = not-true _ (both-left (not (someBeyond (part outline 0 (outlineSize runs)))) _ grid)
+  pub outline-on-grid : (someBeyond (part (l .ox) 0 (outlineSize runs)) ≡ false) × (someBeyond (part (l .oy) 0 (outlineSize runs)) ≡ false)
+  outline-on-grid = within-told (l .ox) (l .oy) (outlineSize runs) (both-left (within (l .ox) (l .oy) (outlineSize runs)) _ grid)
 
-  pub store-on-grid : someBeyond (part store 0 (total runs)) ≡ false
-  store-on-grid = not-true _ (both-right (not (someBeyond (part outline 0 (outlineSize runs)))) _ grid)
+  pub store-on-grid : (someBeyond (part (l .sx) 0 (total runs)) ≡ false) × (someBeyond (part (l .sy) 0 (total runs)) ≡ false)
+  store-on-grid = within-told (l .sx) (l .sy) (total runs) (both-right (within (l .ox) (l .oy) (outlineSize runs)) _ grid)

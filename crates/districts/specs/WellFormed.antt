@@ -1,4 +1,4 @@
--- The rules' well-formed register, asked of the three lists. What stands in the free room is not asked. Assumes nothing.
+-- The rules' well-formed register, asked of the five lists. What stands in the free room is not asked. Assumes nothing.
 use Prim.Native.Nat.{ℕ, _+_}
 use mathlib.Core.Bool.{Bool, not, _&&_, _||_}
 use mathlib.Core.List.{List}
@@ -10,9 +10,9 @@ use Rattle.districts.specs.Counts.{allTo, sumTo}
 use Rattle.districts.specs.Register.{numbers}
 use Rattle.districts.specs.Lists.{outlineSize, firstPlace, size, part}
 
--- the lists are as long as a register's are
-abbrev pub shaped : List ℤ → List ℤ → List ℕ → Bool
-shaped outline store runs = eqb (length outline) 4096 && (eqb (length store) 4096 && eqb (length runs) 129)
+-- the columns of the outline and of the store and the runs are as long as a register's are
+abbrev pub shaped : List ℤ → List ℤ → List ℤ → List ℤ → List ℕ → Bool
+shaped ox oy sx sy runs = (eqb (length ox) 2048 && eqb (length oy) 2048) && ((eqb (length sx) 2048 && eqb (length sy) 2048) && eqb (length runs) 129)
 
 -- none, or a ring of 3 to 2,048 vertices
 abbrev pub sized : ℕ → Bool
@@ -40,9 +40,14 @@ packed runs = allTo numbers (inside runs (total runs)) && allTo numbers (λ d. a
 abbrev pub counted : List ℕ → Bool
 counted runs = (sized (outlineSize runs) && allTo numbers (λ d. sized (size runs d))) && (leb (total runs) mostVertices && (leb 1 (outlineSize runs) || eqb (total runs) 0))
 
--- every coordinate of the outline and of the districts is on the grid
-abbrev pub onGrid : List ℤ → List ℤ → List ℕ → Bool
-onGrid outline store runs = not (someBeyond (part outline 0 (outlineSize runs))) && not (someBeyond (part store 0 (total runs)))
+-- the first n of both columns are on the grid
+abbrev pub within : List ℤ → List ℤ → ℕ → Bool
+within xs ys n = not (someBeyond (part xs 0 n)) && not (someBeyond (part ys 0 n))
 
-unfoldable pub wellFormed : List ℤ → List ℤ → List ℕ → Bool
-wellFormed outline store runs = shaped outline store runs && (counted runs && (packed runs && onGrid outline store runs))
+-- every coordinate of the outline and of the districts is on the grid
+abbrev pub onGrid : List ℤ → List ℤ → List ℤ → List ℤ → List ℕ → Bool
+onGrid ox oy sx sy runs = within ox oy (outlineSize runs) && within sx sy (total runs)
+
+-- of the outline's x and y, the store's and the runs
+unfoldable pub wellFormed : List ℤ → List ℤ → List ℤ → List ℤ → List ℕ → Bool
+wellFormed ox oy sx sy runs = shaped ox oy sx sy runs && (counted runs && (packed runs && onGrid ox oy sx sy runs))

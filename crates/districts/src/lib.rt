@@ -1,4 +1,4 @@
-// A register is held in three lent lists; this crate reads them and answers whether they are well-formed. No function changes a list.
+// A register is held in five lent lists: the outline's x and y (ox, oy), the store's (sx, sy), and the runs. This crate reads them and answers whether they are well-formed. No function changes a list.
 // It also has the answers to reports.
 mod packing;
 mod runs;
@@ -13,19 +13,14 @@ pub use runs::outline_size;
 pub use runs::size;
 pub use runs::total;
 ghost use mathlib.Core.Path.{_≡_};
-ghost use mathlib.Core.Bool.{not, _&&_};
-ghost use Prim.Native.Nat.{_+_, _≤_};
+ghost use Prim.Native.Nat.{_≤_};
 ghost use lib.ListN.{length};
-ghost use Rattle.districts.specs.WellFormed.{shaped as shapedLists, counted as countedRuns, total as totalOf, wellFormed};
-ghost use Rattle.districts.specs.Lists.{part, meaning};
-ghost use Rattle.districts.specs.Lent.{beginning};
+ghost use Rattle.districts.specs.WellFormed.{shaped as shapedLists, counted as countedRuns, total as totalOf, within};
+ghost use Rattle.districts.specs.Lent.{lent, formed, means, beginning};
 ghost use Rattle.refusals.specs.Verdicts.{verdict, verdictOf};
-ghost use Rattle.ring.specs.Grid.{someBeyond};
 
-// How long the three lists of a register are.
-pub const OUTLINE_LENGTH: usize = 4096;
-
-pub const STORE_LENGTH: usize = 4096;
+// How long the lists of a register are: each of the four columns, and the runs.
+pub const COLUMN_LENGTH: usize = 2048;
 
 pub const RUNS_LENGTH: usize = 129;
 
@@ -52,11 +47,11 @@ pub enum Assigned {
     Refused(Refusal),
 }
 
-// Whether the three lists are a well-formed register. It reads no free room.
-pub fn well_formed(outline: &[i32], store: &[i32], runs: &[u32]) -> bool
-    ensures { λ r. ⌜ r ≡ wellFormed (now (outline .entry)) (now (store .entry)) (now (runs .entry)) ⌝ }
+// Whether the five lists are a well-formed register. It reads no free room.
+pub fn well_formed(ox: &[i32], oy: &[i32], sx: &[i32], sy: &[i32], runs: &[u32]) -> bool
+    ensures { λ r. ⌜ r ≡ formed (lent (now (ox .entry)) (now (oy .entry)) (now (sx .entry)) (now (sy .entry)) (now (runs .entry))) ⌝ }
 {
-    if !shaped(outline, store, runs) {
+    if !shaped(ox, oy, sx, sy, runs) {
         return false;
     }
     let all = total(runs);
@@ -66,14 +61,14 @@ pub fn well_formed(outline: &[i32], store: &[i32], runs: &[u32]) -> bool
     if !packing::packed(runs, all) {
         return false;
     }
-    on_grid(outline, store, outline_size(runs), all)
+    on_grid(ox, oy, outline_size(runs)) & on_grid(sx, sy, all)
 }
 
 // Refusal 1 where the lists are not well-formed, then 2 where there is no outline.
-pub fn usable(outline: &[i32], store: &[i32], runs: &[u32]) -> Verdict
-    ensures { λ r. ⌜ verdictOf r ≡ verdict (beginning (wellFormed (now (outline .entry)) (now (store .entry)) (now (runs .entry))) (meaning (now (outline .entry)) (now (store .entry)) (now (runs .entry)))) ⌝ }
+pub fn usable(ox: &[i32], oy: &[i32], sx: &[i32], sy: &[i32], runs: &[u32]) -> Verdict
+    ensures { λ r. ⌜ verdictOf r ≡ verdict (beginning (formed (lent (now (ox .entry)) (now (oy .entry)) (now (sx .entry)) (now (sy .entry)) (now (runs .entry)))) (means (lent (now (ox .entry)) (now (oy .entry)) (now (sx .entry)) (now (sy .entry)) (now (runs .entry))))) ⌝ }
 {
-    if !well_formed(outline, store, runs) {
+    if !well_formed(ox, oy, sx, sy, runs) {
         return Verdict::Refused(Refusal::NotWellFormed);
     }
     if outline_size(runs) == 0 {
@@ -82,11 +77,12 @@ pub fn usable(outline: &[i32], store: &[i32], runs: &[u32]) -> Verdict
     Verdict::Accepted
 }
 
-fn shaped(outline: &[i32], store: &[i32], runs: &[u32]) -> bool
-    ensures { λ r. ⌜ r ≡ shapedLists (now (outline .entry)) (now (store .entry)) (now (runs .entry)) ⌝ }
+fn shaped(ox: &[i32], oy: &[i32], sx: &[i32], sy: &[i32], runs: &[u32]) -> bool
+    ensures { λ r. ⌜ r ≡ shapedLists (now (ox .entry)) (now (oy .entry)) (now (sx .entry)) (now (sy .entry)) (now (runs .entry)) ⌝ }
 {
-    (outline.len() == OUTLINE_LENGTH)
-        & ((store.len() == STORE_LENGTH) & (runs.len() == RUNS_LENGTH))
+    ((ox.len() == COLUMN_LENGTH) & (oy.len() == COLUMN_LENGTH))
+        & (((sx.len() == COLUMN_LENGTH) & (sy.len() == COLUMN_LENGTH))
+            & (runs.len() == RUNS_LENGTH))
 }
 
 fn counted(runs: &[u32], all: usize) -> bool
@@ -99,10 +95,16 @@ fn counted(runs: &[u32], all: usize) -> bool
         & ((all <= ring::MOST_VERTICES) & ((1 <= n) | (all == 0)))
 }
 
-// Whether the outline's n vertices and the districts' `all` are on the grid.
-fn on_grid(outline: &[i32], store: &[i32], n: usize, all: usize) -> bool
-    requires { ⌜ (n + n ≤ length (now outline)) × (all + all ≤ length (now store)) ⌝ }
-    ensures { λ r. ⌜ r ≡ (not (someBeyond (part (now (outline .entry)) 0 n)) && not (someBeyond (part (now (store .entry)) 0 all))) ⌝ }
+// Whether the first n of both columns are on the grid. Both in one loop: two would cost a small register more than both coordinates at once did.
+fn on_grid(xs: &[i32], ys: &[i32], n: usize) -> bool
+    requires { ⌜ (n ≤ length (now xs)) × (n ≤ length (now ys)) ⌝ }
+    ensures { λ r. ⌜ r ≡ within (now (xs .entry)) (now (ys .entry)) n ⌝ }
 {
-    !ring::some_beyond(&outline[0..2 * n]) & !ring::some_beyond(&store[0..2 * all])
+    let mut good = true;
+    let mut i = 0;
+    while i < n {
+        good = good & !(ring::beyond(xs[i]) | ring::beyond(ys[i]));
+        i += 1;
+    }
+    good
 }

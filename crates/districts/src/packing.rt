@@ -29,14 +29,19 @@ fn mark(runs: &[u32], starts: &mut [u8], d: usize)
     }
 }
 
-fn mark_all(runs: &[u32], starts: &mut [u8])
+// Stops once all vertices are seen: the numbers left are unused.
+fn mark_all(runs: &[u32], starts: &mut [u8], all: usize)
     requires { ⌜ length (now runs) ≡ 129 ⌝ }
+    requires { ⌜ all ≡ totalOf (now runs) ⌝ }
+    requires { ⌜ all ≤ 2048 ⌝ }
     requires { ⌜ Marked (now runs) 0 (now starts) ⌝ }
     ensures { λ _. ⌜ Marked (now (runs .entry)) 64 (now (starts .exit)) ⌝ }
 {
+    let mut seen = 0;
     let mut d = 0;
-    while d < crate::NUMBERS {
+    while seen < all {
         mark(runs, starts, d);
+        seen += size(runs, d);
         d += 1;
     }
 }
@@ -67,6 +72,6 @@ pub fn packed(runs: &[u32], all: usize) -> bool
     ensures { λ r. ⌜ r ≡ packedRuns (now (runs .entry)) ⌝ }
 {
     let mut starts = [0u8; ring::MOST_VERTICES];
-    mark_all(runs, &mut starts);
+    mark_all(runs, &mut starts, all);
     chained(runs, &starts, all)
 }

@@ -8,8 +8,7 @@ use register::Position;
 use telling::Values;
 ghost use mathlib.Core.Path.{_≡_};
 ghost use Rattle.ring.specs.Locate.{located};
-ghost use Rattle.districts.specs.WellFormed.{wellFormed};
-ghost use Rattle.districts.specs.Lists.{meaning};
+ghost use Rattle.districts.specs.Lent.{lent, formed, means};
 ghost use Rattle.register.specs.Sorting.{assigned};
 ghost use Rattle.fixes.specs.Millimetres.{placed};
 ghost use Rattle.register.specs.Placing.{assignedAt};
@@ -24,31 +23,41 @@ pub extern "C" fn launchramp_locate(ring: &[i32], x: i32, y: i32, values: &mut V
     telling::place(ring::locate(ring, x, y), values)
 }
 
-// Whether the three lists are a well-formed register.
+// Whether the five lists are a well-formed register.
 #[no_mangle]
-pub extern "C" fn launchramp_well_formed(outline: &[i32], store: &[i32], runs: &[u32]) -> bool
-    ensures { λ r. ⌜ r ≡ wellFormed (now (outline .entry)) (now (store .entry)) (now (runs .entry)) ⌝ }
+pub extern "C" fn launchramp_well_formed(
+    ox: &[i32],
+    oy: &[i32],
+    sx: &[i32],
+    sy: &[i32],
+    runs: &[u32],
+) -> bool
+    ensures { λ r. ⌜ r ≡ formed (lent (now (ox .entry)) (now (oy .entry)) (now (sx .entry)) (now (sy .entry)) (now (runs .entry))) ⌝ }
 {
-    districts::well_formed(outline, store, runs)
+    districts::well_formed(ox, oy, sx, sy, runs)
 }
 
 #[no_mangle]
 pub extern "C" fn launchramp_found(
-    outline: &mut [i32],
-    store: &mut [i32],
+    ox: &mut [i32],
+    oy: &mut [i32],
+    sx: &mut [i32],
+    sy: &mut [i32],
     runs: &mut [u32],
     ring: &[i32],
     values: &mut Values,
 ) -> u32
-    ensures { λ r. ⌜ FoundTells r (now (values .exit)) (now (ring .entry)) (record { outline = now (outline .entry); store = now (store .entry); runs = now (runs .entry) }) (record { outline = now (outline .exit); store = now (store .exit); runs = now (runs .exit) }) ⌝ }
+    ensures { λ r. ⌜ FoundTells r (now (values .exit)) (now (ring .entry)) (lent (now (ox .entry)) (now (oy .entry)) (now (sx .entry)) (now (sy .entry)) (now (runs .entry))) (lent (now (ox .exit)) (now (oy .exit)) (now (sx .exit)) (now (sy .exit)) (now (runs .exit))) ⌝ }
 {
-    telling::founded(register::found(outline, store, runs, ring), values)
+    telling::founded(register::found(ox, oy, sx, sy, runs, ring), values)
 }
 
 #[no_mangle]
 pub extern "C" fn launchramp_split(
-    outline: &[i32],
-    store: &mut [i32],
+    ox: &[i32],
+    oy: &[i32],
+    sx: &mut [i32],
+    sy: &mut [i32],
     runs: &mut [u32],
     d: usize,
     i: usize,
@@ -56,15 +65,17 @@ pub extern "C" fn launchramp_split(
     path: &[i32],
     values: &mut Values,
 ) -> u32
-    ensures { λ r. ⌜ SplitTells r (now (values .exit)) d i j (now (path .entry)) (record { outline = now (outline .entry); store = now (store .entry); runs = now (runs .entry) }) (record { outline = now (outline .entry); store = now (store .exit); runs = now (runs .exit) }) ⌝ }
+    ensures { λ r. ⌜ SplitTells r (now (values .exit)) d i j (now (path .entry)) (lent (now (ox .entry)) (now (oy .entry)) (now (sx .entry)) (now (sy .entry)) (now (runs .entry))) (lent (now (ox .entry)) (now (oy .entry)) (now (sx .exit)) (now (sy .exit)) (now (runs .exit))) ⌝ }
 {
-    telling::changed(changes::split(outline, store, runs, d, i, j, path), values)
+    telling::changed(changes::split(ox, oy, sx, sy, runs, d, i, j, path), values)
 }
 
 #[no_mangle]
 pub extern "C" fn launchramp_merge(
-    outline: &[i32],
-    store: &mut [i32],
+    ox: &[i32],
+    oy: &[i32],
+    sx: &mut [i32],
+    sy: &mut [i32],
     runs: &mut [u32],
     kept: usize,
     a: usize,
@@ -73,10 +84,10 @@ pub extern "C" fn launchramp_merge(
     k: usize,
     values: &mut Values,
 ) -> u32
-    ensures { λ r. ⌜ MergeTells r (now (values .exit)) kept a gone b k (record { outline = now (outline .entry); store = now (store .entry); runs = now (runs .entry) }) (record { outline = now (outline .entry); store = now (store .exit); runs = now (runs .exit) }) ⌝ }
+    ensures { λ r. ⌜ MergeTells r (now (values .exit)) kept a gone b k (lent (now (ox .entry)) (now (oy .entry)) (now (sx .entry)) (now (sy .entry)) (now (runs .entry))) (lent (now (ox .entry)) (now (oy .entry)) (now (sx .exit)) (now (sy .exit)) (now (runs .exit))) ⌝ }
 {
     telling::changed(
-        changes::merge(outline, store, runs, kept, a, gone, b, k),
+        changes::merge(ox, oy, sx, sy, runs, kept, a, gone, b, k),
         values,
     )
 }
@@ -84,32 +95,36 @@ pub extern "C" fn launchramp_merge(
 // Sorts a report at a point. The caller knows its number.
 #[no_mangle]
 pub extern "C" fn launchramp_assign(
-    outline: &[i32],
-    store: &[i32],
+    ox: &[i32],
+    oy: &[i32],
+    sx: &[i32],
+    sy: &[i32],
     runs: &[u32],
     x: i32,
     y: i32,
     values: &mut Values,
 ) -> u32
-    ensures { λ r. ⌜ Tells r (now (values .exit)) (answerCode (assigned (wellFormed (now (outline .entry)) (now (store .entry)) (now (runs .entry))) (meaning (now (outline .entry)) (now (store .entry)) (now (runs .entry))) 0 x y)) ⌝ }
+    ensures { λ r. ⌜ Tells r (now (values .exit)) (answerCode (assigned (formed (lent (now (ox .entry)) (now (oy .entry)) (now (sx .entry)) (now (sy .entry)) (now (runs .entry)))) (means (lent (now (ox .entry)) (now (oy .entry)) (now (sx .entry)) (now (sy .entry)) (now (runs .entry)))) 0 x y)) ⌝ }
 {
-    telling::assigned(register::assign(outline, store, runs, 0, x, y), values)
+    telling::assigned(register::assign(ox, oy, sx, sy, runs, 0, x, y), values)
 }
 
 // Sorts a report at a point, and counts it in a tally.
 #[no_mangle]
 pub extern "C" fn launchramp_assign_counted(
-    outline: &[i32],
-    store: &[i32],
+    ox: &[i32],
+    oy: &[i32],
+    sx: &[i32],
+    sy: &[i32],
     runs: &[u32],
     x: i32,
     y: i32,
     counts: &mut [u32; 67],
     values: &mut Values,
 ) -> u32
-    ensures { λ r. ⌜ CountTells r (now (values .exit)) (assigned (wellFormed (now (outline .entry)) (now (store .entry)) (now (runs .entry))) (meaning (now (outline .entry)) (now (store .entry)) (now (runs .entry))) 0 x y) (now (counts .entry)) (now (counts .exit)) ⌝ }
+    ensures { λ r. ⌜ CountTells r (now (values .exit)) (assigned (formed (lent (now (ox .entry)) (now (oy .entry)) (now (sx .entry)) (now (sy .entry)) (now (runs .entry)))) (means (lent (now (ox .entry)) (now (oy .entry)) (now (sx .entry)) (now (sy .entry)) (now (runs .entry)))) 0 x y) (now (counts .entry)) (now (counts .exit)) ⌝ }
 {
-    let answer = register::assign(outline, store, runs, 0, x, y);
+    let answer = register::assign(ox, oy, sx, sy, runs, 0, x, y);
     telling::assigned(counting::counted(answer, counts), values)
 }
 
@@ -129,18 +144,20 @@ pub extern "C" fn launchramp_millimetres(
 // Sorts a report by a receiver's fix.
 #[no_mangle]
 pub extern "C" fn launchramp_assign_fix(
-    outline: &[i32],
-    store: &[i32],
+    ox: &[i32],
+    oy: &[i32],
+    sx: &[i32],
+    sy: &[i32],
     runs: &[u32],
     easting: f64,
     northing: f64,
     values: &mut Values,
 ) -> u32
-    ensures { λ r. ⌜ Tells r (now (values .exit)) (answerCode (assignedAt (wellFormed (now (outline .entry)) (now (store .entry)) (now (runs .entry))) (meaning (now (outline .entry)) (now (store .entry)) (now (runs .entry))) 0 (Position.Fix (record { easting = easting; northing = northing })))) ⌝ }
+    ensures { λ r. ⌜ Tells r (now (values .exit)) (answerCode (assignedAt (formed (lent (now (ox .entry)) (now (oy .entry)) (now (sx .entry)) (now (sy .entry)) (now (runs .entry)))) (means (lent (now (ox .entry)) (now (oy .entry)) (now (sx .entry)) (now (sy .entry)) (now (runs .entry)))) 0 (Position.Fix (record { easting = easting; northing = northing })))) ⌝ }
 {
     let position = Position::Fix(Fix { easting, northing });
     telling::assigned(
-        register::assign_at(outline, store, runs, 0, position),
+        register::assign_at(ox, oy, sx, sy, runs, 0, position),
         values,
     )
 }
@@ -148,33 +165,37 @@ pub extern "C" fn launchramp_assign_fix(
 // Sorts a report by a receiver's fix, and counts it in a tally.
 #[no_mangle]
 pub extern "C" fn launchramp_assign_fix_counted(
-    outline: &[i32],
-    store: &[i32],
+    ox: &[i32],
+    oy: &[i32],
+    sx: &[i32],
+    sy: &[i32],
     runs: &[u32],
     easting: f64,
     northing: f64,
     counts: &mut [u32; 67],
     values: &mut Values,
 ) -> u32
-    ensures { λ r. ⌜ CountTells r (now (values .exit)) (assignedAt (wellFormed (now (outline .entry)) (now (store .entry)) (now (runs .entry))) (meaning (now (outline .entry)) (now (store .entry)) (now (runs .entry))) 0 (Position.Fix (record { easting = easting; northing = northing }))) (now (counts .entry)) (now (counts .exit)) ⌝ }
+    ensures { λ r. ⌜ CountTells r (now (values .exit)) (assignedAt (formed (lent (now (ox .entry)) (now (oy .entry)) (now (sx .entry)) (now (sy .entry)) (now (runs .entry)))) (means (lent (now (ox .entry)) (now (oy .entry)) (now (sx .entry)) (now (sy .entry)) (now (runs .entry)))) 0 (Position.Fix (record { easting = easting; northing = northing }))) (now (counts .entry)) (now (counts .exit)) ⌝ }
 {
     let position = Position::Fix(Fix { easting, northing });
-    let answer = register::assign_at(outline, store, runs, 0, position);
+    let answer = register::assign_at(ox, oy, sx, sy, runs, 0, position);
     telling::assigned(counting::counted(answer, counts), values)
 }
 
 // Refuses a report whose position is missing: by 19, or by what comes before it.
 #[no_mangle]
 pub extern "C" fn launchramp_assign_missing(
-    outline: &[i32],
-    store: &[i32],
+    ox: &[i32],
+    oy: &[i32],
+    sx: &[i32],
+    sy: &[i32],
     runs: &[u32],
     values: &mut Values,
 ) -> u32
-    ensures { λ r. ⌜ Tells r (now (values .exit)) (answerCode (assignedAt (wellFormed (now (outline .entry)) (now (store .entry)) (now (runs .entry))) (meaning (now (outline .entry)) (now (store .entry)) (now (runs .entry))) 0 Position.Missing)) ⌝ }
+    ensures { λ r. ⌜ Tells r (now (values .exit)) (answerCode (assignedAt (formed (lent (now (ox .entry)) (now (oy .entry)) (now (sx .entry)) (now (sy .entry)) (now (runs .entry)))) (means (lent (now (ox .entry)) (now (oy .entry)) (now (sx .entry)) (now (sy .entry)) (now (runs .entry)))) 0 Position.Missing)) ⌝ }
 {
     telling::assigned(
-        register::assign_at(outline, store, runs, 0, Position::Missing),
+        register::assign_at(ox, oy, sx, sy, runs, 0, Position::Missing),
         values,
     )
 }

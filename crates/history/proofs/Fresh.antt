@@ -2,17 +2,21 @@
 use Prim.Native.Nat.{ℕ, _+_}
 use native.Mathlib.Decide.{decLt}
 use native.Mathlib.Omega.{arith}
-use mathlib.Core.Path.{_≡_, ap}
+use mathlib.Core.Path.{_≡_, sym, ap, _∙_}
 use mathlib.Core.List.{List}
 use lib.IntN.{ℤ}
 use lib.ListN.{length, getD}
+use Rattle.ring.specs.declared.Point.{Point}
 use Rattle.ring.specs.Grid.{someBeyond}
+use Rattle.ring.specs.Columns.{points}
+use Rattle.ring.proofs.Columns.{length-points}
 use Rattle.districts.specs.Counts.{listTo}
 use Rattle.districts.specs.Register.{unused, numbers}
 use Rattle.districts.specs.Lists.{outlineSize, firstPlace, size, part, district, meaning}
 use Rattle.districts.specs.WellFormed.{sized, total}
 use Rattle.districts.proofs.Meaning.{list-at, list-past, list-long, list-same, unused-when}
-use Rattle.districts.specs.Lent.{formed}
+use Rattle.districts.specs.Lent.{lent}
+use Rattle.room.specs.Writing.{numbersOf}
 use Rattle.room.proofs.Forms as Forms
 use Rattle.room.proofs.Forms.{Sound}
 use Rattle.history.specs.Histories.{empty}
@@ -31,7 +35,8 @@ zero-at k = elim (decLt k 129) [
 none : total zeros ≡ 0
 none = sum-zero (size zeros) 64 (λ d h. zero-at (65 + d))
 
-facts : (outline store : List ℤ) → length outline ≡ 4096 → length store ≡ 4096 → Sound outline store zeros
+facts : (outline store : List Point) → length outline ≡ 2048 → length store ≡ 2048 → Sound outline store zeros
+unfolding numbersOf
 facts outline store e f = record {
   outline-length = e;
   store-length = f;
@@ -42,16 +47,16 @@ facts outline store e f = record {
   beside = λ h. none;
   inside = λ d h some. absurd (let f : ⊥ = omega (arith, some, zero-at (65 + d)) in f);
   apart = λ d k h i other some more. absurd (let f : ⊥ = omega (arith, some, zero-at (65 + d)) in f);
-  outline-grid = ap (λ n. someBeyond (part outline 0 n)) (zero-at 0);
-  store-grid = ap (λ n. someBeyond (part store 0 n)) none;
+  outline-grid = ap (λ n. someBeyond (numbersOf (part outline 0 n))) (zero-at 0);
+  store-grid = ap (λ n. someBeyond (numbersOf (part store 0 n))) none;
 }
 
-pub fresh-lists : (outline store : List ℤ) → length outline ≡ 4096 → length store ≡ 4096 → Fresh (record { outline = outline; store = store; runs = listTo 129 (λ k. 0) })
+pub fresh-lists : (ox oy sx sy : List ℤ) → (length ox ≡ 2048) × (length oy ≡ 2048) → (length sx ≡ 2048) × (length sy ≡ 2048) → Fresh (lent ox oy sx sy (listTo 129 (λ k. 0)))
 unfolding meaning empty
-fresh-lists outline store e f = (
-  Forms.formed (facts outline store e f),
+fresh-lists ox oy sx sy e f = (
+  Forms.formed (lent ox oy sx sy zeros) (record { outline = e; store = f }) (facts (points ox oy) (points sx sy) (length-points ox oy (e .0 ∙ sym (e .1)) ∙ e .0) (length-points sx sy (f .0 ∙ sym (f .1)) ∙ f .0)),
   λ t. record {
-    outline = unused-when outline 0 (outlineSize zeros) (zero-at 0) t;
-    districts = list-same numbers (district store zeros) (λ d. unused) (λ d h. unused-when store (firstPlace zeros d) (size zeros d) (zero-at (65 + d))) t;
+    outline = unused-when (points ox oy) 0 (outlineSize zeros) (zero-at 0) t;
+    districts = list-same numbers (district (points sx sy) zeros) (λ d. unused) (λ d h. unused-when (points sx sy) (firstPlace zeros d) (size zeros d) (zero-at (65 + d))) t;
   },
 )

@@ -24,12 +24,12 @@ use Rattle.refusals.proofs.Verdicts.{accepted}
 use Rattle.register.specs.Founding.{founded}
 use Rattle.room.specs.Runs.{run, steps}
 use Rattle.room.specs.Writing.{numbersOf}
-use Rattle.room.proofs.Parts.{sum-but-one}
-use Rattle.room.proofs.Written.{run-length, vertices-numbers, numbers-vertices}
+use Rattle.room.proofs.Parts.{both-on-grid, sum-but-one}
+use Rattle.room.proofs.Written.{run-length, numbers-vertices}
 use Rattle.judging.specs.Splitting.{pieceOne, pieceTwo, lowestUnused, vertexCount}
 use Rattle.changes.specs.Afterwards.{split, merge}
 use Rattle.judging.specs.Merging.{merged}
-use Rattle.changes.proofs.Grids.{run-on-grid, reverse-on-grid, both-on-grid}
+use Rattle.changes.proofs.Grids.{run-on-grid, reverse-on-grid}
 use Rattle.judging.proofs.Judged.{vertices-half}
 use Rattle.judging.proofs.Matched.{merged-length}
 use Rattle.judging.proofs.Sums.{steps-round}
@@ -115,10 +115,6 @@ module _ (g : Register) (d e : ℕ) (s t : Slot) (full : length (g .districts) �
   }
 
 -- ---- coordinates of the grid
-
--- a run of a ring on the grid
-part-on-grid : (P : List Point) (i c : ℕ) → someBeyond (numbersOf P) ≡ false → someBeyond (numbersOf (run P i c)) ≡ false
-part-on-grid P i c e = ap (λ Q. someBeyond (numbersOf (run Q i c))) (sym (vertices-numbers P)) ∙ run-on-grid (numbersOf P) e i c
 
 path-on-grid : (path : List ℤ) → length path % 2 ≡ 0 → someBeyond path ≡ false → someBeyond (numbersOf (vertices path)) ≡ false
 path-on-grid path even e = ap someBeyond (numbers-vertices path (length path / 2) (omega (arith, even))) ∙ e
@@ -222,8 +218,8 @@ split-within g d i j path w fine =
     let most₁ = first-most g d new (ring (pieceOne P i j W)) (ring (pieceTwo P i j W)) (w .full) below (t .number) differ room in
     let most₂ = second-most g d new (ring (pieceOne P i j W)) (ring (pieceTwo P i j W)) (w .full) below (t .number) differ room in
     changed-within g d new (ring (pieceOne P i j W)) (ring (pieceTwo P i j W)) (w .full) below (t .number) differ w (t .outlined)
-    (t .first, most₁, both-on-grid _ _ (part-on-grid P i _ on-grid) (reverse-on-grid W path-grid))
-    (t .second, most₂, both-on-grid _ _ (part-on-grid P j _ on-grid) path-grid)
+    (t .first, most₁, both-on-grid _ _ (run-on-grid P on-grid i _) (reverse-on-grid W path-grid))
+    (t .second, most₂, both-on-grid _ _ (run-on-grid P on-grid j _) path-grid)
     room
   where
     clash : false ≡ true → ⊥
@@ -243,7 +239,7 @@ merge-within g A a B b k w fine =
     let room : vertexCount (merge g A a B b k) ≤ 2048 = omega (arith, all, long, w .most) in
     let most = first-most g A B (ring (merged P a Q b k)) unused (w .full) first second differ room in
     changed-within g A B (ring (merged P a Q b k)) unused (w .full) first second differ w (t .outlined)
-    (t .enough, most, both-on-grid _ _ (part-on-grid P _ _ (used-on-grid (slot g A) (w .rings A))) (part-on-grid Q _ _ (used-on-grid (slot g B) (w .rings B))))
+    (t .enough, most, both-on-grid _ _ (run-on-grid P (used-on-grid (slot g A) (w .rings A)) _ _) (run-on-grid Q (used-on-grid (slot g B) (w .rings B)) _ _))
     tt
     room
 

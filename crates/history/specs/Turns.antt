@@ -1,4 +1,4 @@
--- Calls as a program makes them on its three lists: each turn is a call with what it answered and the lists that it left. Assumes nothing.
+-- Calls as a program makes them on its lists: each turn is a call with what it answered and the lists that it left. Assumes nothing.
 use Prim.Native.Nat.{ℕ}
 use mathlib.Core.Path.{_≡_}
 use mathlib.Core.Bool.{true}

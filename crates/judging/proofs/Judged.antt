@@ -11,19 +11,20 @@ use lib.ListN.{length, length-append, length-reverse, List·getD-eq-default}
 use Rattle.ring.specs.declared.Point.{Point}
 use Rattle.ring.specs.Grid.{vertices, someBeyond}
 use Rattle.ring.specs.Locate.{lowest}
-use Rattle.ring.proofs.Vertices.{length-vertices}
 use Rattle.districts.specs.Register.{slot, inUse, verticesOf}
 use Rattle.districts.specs.Lent.{beginning}
 use Rattle.districts.specs.Lists.{firstPlace, size, part, meaning}
-use Rattle.districts.specs.WellFormed.{total, wellFormed}
+use Rattle.districts.specs.WellFormed.{total}
 use Rattle.districts.proofs.Sums.{sum-same}
-use Rattle.districts.proofs.Meaning.{unused-when, ring-when, slot-is, part-on-grid}
+use Rattle.districts.proofs.Meaning.{unused-when, ring-when, slot-is}
 use Rattle.refusals.specs.Verdicts.{_if_}
 use Rattle.districts.proofs.Lent.{part-length, held-in-use}
 use Rattle.room.specs.Runs.{run, steps}
 use Rattle.judging.specs.Splitting.{pieceOne, pieceTwo, lowestUnused, vertexCount, splitTests}
 use Rattle.judging.specs.Judging.{lowestFree, districtTests}
-use Rattle.room.proofs.Forms.{Sound, sound}
+use Rattle.room.specs.Writing.{numbersOf}
+use Rattle.room.proofs.Forms.{Sound}
+use Rattle.room.proofs.Parts.{points-on-grid}
 use Rattle.room.proofs.Written.{run-length}
 
 -- a number over at the end makes no vertex
@@ -33,10 +34,7 @@ vertices-half [] = omega arith
 vertices-half (x ∷ []) = omega arith
 vertices-half (x ∷ y ∷ xs) = let e = vertices-half xs in omega arith
 
-module _ (outline store : List ℤ) (runs : List ℕ) (good : wellFormed outline store runs ≡ true) where
-  s : Sound outline store runs
-  s = sound outline store runs good
-
+module _ (outline store : List Point) (runs : List ℕ) (s : Sound outline store runs) where
   -- a number that is not 0 stands below 64
   pub used-below : (d : ℕ) → (size runs d ≡ 0 → ⊥) → d < 64
   used-below d some = elim (decLt d 64) [
@@ -45,18 +43,18 @@ module _ (outline store : List ℤ) (runs : List ℕ) (good : wellFormed outline
   ]
 
   -- the ring of a number in use, as the store holds it
-  pub ring-numbers : (d : ℕ) → (size runs d ≡ 0 → ⊥) → length (part store (firstPlace runs d) (size runs d)) ≡ size runs d + size runs d
+  pub ring-numbers : (d : ℕ) → (size runs d ≡ 0 → ⊥) → length (part store (firstPlace runs d) (size runs d)) ≡ size runs d
   ring-numbers d some =
       let fits = s .inside d (used-below d some) (omega arith) in
       part-length store (firstPlace runs d) (size runs d) (omega (arith, fits, s .most, s .store-length))
 
-  pub ring-of : (d : ℕ) → (size runs d ≡ 0 → ⊥) → verticesOf (slot (meaning outline store runs) d) ≡ vertices (part store (firstPlace runs d) (size runs d))
+  pub ring-of : (d : ℕ) → (size runs d ≡ 0 → ⊥) → verticesOf (slot (meaning outline store runs) d) ≡ part store (firstPlace runs d) (size runs d)
   ring-of d some = ap verticesOf (slot-is outline store runs (s .runs-length) d ∙ ring-when store (firstPlace runs d) (size runs d) some)
 
-  pub ring-on-grid : (d : ℕ) → (size runs d ≡ 0 → ⊥) → someBeyond (part store (firstPlace runs d) (size runs d)) ≡ false
+  pub ring-on-grid : (d : ℕ) → (size runs d ≡ 0 → ⊥) → someBeyond (numbersOf (part store (firstPlace runs d) (size runs d))) ≡ false
   ring-on-grid d some =
       let fits = s .inside d (used-below d some) (omega (arith, some)) in
-      part-on-grid store (firstPlace runs d) (size runs d) (total runs) fits (s .store-grid)
+      points-on-grid store (firstPlace runs d) (size runs d) (total runs) fits (s .store-grid)
 
   abbrev ringOf : ℕ → List Point
   ringOf d = verticesOf (slot (meaning outline store runs) d)
@@ -64,7 +62,7 @@ module _ (outline store : List ℤ) (runs : List ℕ) (good : wellFormed outline
   pub length-of : (d : ℕ) → length (verticesOf (slot (meaning outline store runs) d)) ≡ size runs d
   length-of d = elim (ℕ-discrete (size runs d) 0) [
     | yes none ↦ ap (λ t. length (verticesOf t)) (slot-is outline store runs (s .runs-length) d ∙ unused-when store (firstPlace runs d) (size runs d) none) ∙ sym none
-    | no some ↦ ap length (ring-of d some) ∙ length-vertices (part store (firstPlace runs d) (size runs d)) (size runs d) (ring-numbers d some)
+    | no some ↦ ap length (ring-of d some) ∙ ring-numbers d some
   ]
 
   pub used-is : (d : ℕ) → inUse (slot (meaning outline store runs) d) ≡ not (eqb (size runs d) 0)

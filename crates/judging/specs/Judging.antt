@@ -1,6 +1,7 @@
 -- The tests of a split, asked of the numbers that the lists hold, and those of a merge, asked of two slots. No public promise cites it.
 -- Assumes nothing.
-use Prim.Native.Nat.{ℕ, suc, _+_, _/_, _%_}
+use Prim.Native.Nat.{ℕ, suc, _+_, _/_, _%_, _≤_, _<_}
+use mathlib.Core.Path.{_≡_}
 use mathlib.Core.Bool.{not, _||_}
 use mathlib.Core.List.{List, [], _∷_}
 use lib.Dec.{eqb, leb, ltb}
@@ -15,6 +16,13 @@ use Rattle.districts.specs.WellFormed.{total}
 use Rattle.refusals.specs.Verdicts.{Test, _if_}
 use Rattle.room.specs.Runs.{steps}
 use Rattle.judging.specs.Merging.{matches, merged}
+
+-- a ring in two columns, one of its indices, and a number of steps that do not lead round it
+pub record Matchable (xs ys : List ℤ) (a t : ℕ) : Type 0 where
+  pub even : length xs ≡ length ys
+  pub most : length xs ≤ 2048
+  pub index : a < length xs
+  pub less : t < length xs
 
 -- the lowest number whose size is 0, 64 where there is none
 abbrev pub lowestFree : List ℕ → ℕ

@@ -3,38 +3,39 @@ use crate::splits;
 use refusals::Refusal;
 use refusals::Verdict;
 ghost use mathlib.Core.Path.{_≡_};
-ghost use Prim.Native.Nat.{_+_, _-_, _<_};
+ghost use Prim.Native.Nat.{_+_, _-_, _≤_};
 ghost use lib.ListN.{length};
-ghost use Rattle.ring.specs.Grid.{vertices};
+ghost use Rattle.ring.specs.Columns.{points};
 ghost use Rattle.ring.specs.Rings.{at};
 ghost use Rattle.ring.specs.Segment.{same as samePoint};
-ghost use Rattle.districts.specs.Lists.{district, meaning};
-ghost use Rattle.districts.specs.WellFormed.{wellFormed};
+ghost use Rattle.districts.specs.Lists.{district};
 ghost use Rattle.refusals.specs.Verdicts.{verdict, verdictOf};
-ghost use Rattle.districts.specs.Lent.{GoodRuns};
+ghost use Rattle.districts.specs.Lent.{lent, formed, means, GoodRuns};
 ghost use Rattle.judging.specs.Merging.{matches as matchAll, mergeTests};
-ghost use Rattle.judging.specs.Judging.{borderTests, pairTests};
+ghost use Rattle.judging.specs.Judging.{Matchable, borderTests, pairTests};
 
-// Whether vertex a + t of a ring of n is vertex b - t of one of m.
-fn meets(ring: &[i32], n: usize, a: usize, other: &[i32], m: usize, b: usize, t: usize) -> bool
-    requires { ⌜ (length (now ring) ≡ n + n) × (a < n) × (t < n) ⌝ }
-    requires { ⌜ (length (now other) ≡ m + m) × (b < m) × (t < m) ⌝ }
-    ensures { λ r. ⌜ r ≡ samePoint (at (vertices (now (ring .entry))) (a + t)) (at (vertices (now (other .entry))) (b + m - t)) ⌝ }
+// Whether vertex a + t of the ring in the columns xs, ys is vertex b - t of the one in us, vs.
+fn meets(xs: &[i32], ys: &[i32], a: usize, us: &[i32], vs: &[i32], b: usize, t: usize) -> bool
+    requires { ⌜ Matchable (now xs) (now ys) a t ⌝ }
+    requires { ⌜ Matchable (now us) (now vs) b t ⌝ }
+    ensures { λ r. ⌜ r ≡ samePoint (at (points (now (xs .entry)) (now (ys .entry))) (a + t)) (at (points (now (us .entry)) (now (vs .entry))) (b + length (now (us .entry)) - t)) ⌝ }
 {
-    let p = ring::vertex(ring, room::around(a + t, n));
-    let q = ring::vertex(other, room::around(b + m - t, m));
+    let n = xs.len();
+    let m = us.len();
+    let p = columns::vertex(xs, ys, room::around(a + t, n));
+    let q = columns::vertex(us, vs, room::around(b + m - t, m));
     ring::same(p, q)
 }
 
 // Whether the rings match along k edges: in all k + 1 points, the one going forward and the other backward.
-fn matches(ring: &[i32], n: usize, a: usize, other: &[i32], m: usize, b: usize, k: usize) -> bool
-    requires { ⌜ (length (now ring) ≡ n + n) × (a < n) × (k < n) ⌝ }
-    requires { ⌜ (length (now other) ≡ m + m) × (b < m) × (k < m) ⌝ }
-    ensures { λ r. ⌜ r ≡ matchAll (vertices (now (ring .entry))) a (vertices (now (other .entry))) b k ⌝ }
+fn matches(xs: &[i32], ys: &[i32], a: usize, us: &[i32], vs: &[i32], b: usize, k: usize) -> bool
+    requires { ⌜ Matchable (now xs) (now ys) a k ⌝ }
+    requires { ⌜ Matchable (now us) (now vs) b k ⌝ }
+    ensures { λ r. ⌜ r ≡ matchAll (points (now (xs .entry)) (now (ys .entry))) a (points (now (us .entry)) (now (vs .entry))) b k ⌝ }
 {
     let mut t = 0;
     while t <= k {
-        if !meets(ring, n, a, other, m, b, t) {
+        if !meets(xs, ys, a, us, vs, b, t) {
             return false;
         }
         t += 1;
@@ -44,24 +45,27 @@ fn matches(ring: &[i32], n: usize, a: usize, other: &[i32], m: usize, b: usize, 
 
 // Refusals 8, 10 and 9.
 fn judge_border(
-    ring: &[i32],
-    n: usize,
+    xs: &[i32],
+    ys: &[i32],
     a: usize,
-    other: &[i32],
-    m: usize,
+    us: &[i32],
+    vs: &[i32],
     b: usize,
     k: usize,
 ) -> Verdict
-    requires { ⌜ (length (now ring) ≡ n + n) × (length (now other) ≡ m + m) ⌝ }
-    ensures { λ r. ⌜ verdictOf r ≡ verdict (borderTests (vertices (now (ring .entry))) a (vertices (now (other .entry))) b k) ⌝ }
+    requires { ⌜ (length (now xs) ≡ length (now ys)) × (length (now us) ≡ length (now vs)) ⌝ }
+    requires { ⌜ (length (now xs) ≤ 2048) × (length (now us) ≤ 2048) ⌝ }
+    ensures { λ r. ⌜ verdictOf r ≡ verdict (borderTests (points (now (xs .entry)) (now (ys .entry))) a (points (now (us .entry)) (now (vs .entry))) b k) ⌝ }
 {
+    let n = xs.len();
+    let m = us.len();
     if (n <= a) | (m <= b) {
         return Verdict::Refused(Refusal::BadIndex);
     }
     if (k == 0) | ((n <= k) | (m <= k)) {
         return Verdict::Refused(Refusal::NoMatch);
     }
-    if !matches(ring, n, a, other, m, b, k) {
+    if !matches(xs, ys, a, us, vs, b, k) {
         return Verdict::Refused(Refusal::NoMatch);
     }
     if n - k + (m - k) < ring::FEWEST_VERTICES {
@@ -70,9 +74,10 @@ fn judge_border(
     Verdict::Accepted
 }
 
-// Refusals 6 and 7, then those; the rings are the parts of the store at the two districts' offsets.
+// Refusals 6 and 7, then those; the rings are the parts of the store's columns at the two districts' offsets.
 fn judge_pair(
-    store: &[i32],
+    sx: &[i32],
+    sy: &[i32],
     runs: &[u32],
     kept: usize,
     a: usize,
@@ -80,8 +85,8 @@ fn judge_pair(
     b: usize,
     k: usize,
 ) -> Verdict
-    requires { ⌜ GoodRuns (now store) (now runs) ⌝ }
-    ensures { λ r. ⌜ verdictOf r ≡ verdict (pairTests (district (now (store .entry)) (now (runs .entry)) kept) (district (now (store .entry)) (now (runs .entry)) gone) kept a gone b k) ⌝ }
+    requires { ⌜ GoodRuns (now sx) (now sy) (now runs) ⌝ }
+    ensures { λ r. ⌜ verdictOf r ≡ verdict (pairTests (district (points (now (sx .entry)) (now (sy .entry))) (now (runs .entry)) kept) (district (points (now (sx .entry)) (now (sy .entry))) (now (runs .entry)) gone) kept a gone b k) ⌝ }
 {
     if !splits::in_use(runs, kept) | !splits::in_use(runs, gone) {
         return Verdict::Refused(Refusal::BadNumber);
@@ -89,19 +94,27 @@ fn judge_pair(
     if kept == gone {
         return Verdict::Refused(Refusal::SameDistrict);
     }
-    let n = districts::size(runs, kept);
-    let m = districts::size(runs, gone);
-    let from = 2 * districts::first_place(runs, kept);
-    let after = 2 * districts::first_place(runs, gone);
-    let to = from + 2 * n;
-    let end = after + 2 * m;
-    judge_border(&store[from..to], n, a, &store[after..end], m, b, k)
+    let from = districts::first_place(runs, kept);
+    let after = districts::first_place(runs, gone);
+    let to = from + districts::size(runs, kept);
+    let end = after + districts::size(runs, gone);
+    judge_border(
+        &sx[from..to],
+        &sy[from..to],
+        a,
+        &sx[after..end],
+        &sy[after..end],
+        b,
+        k,
+    )
 }
 
 // Whether the merge is refused, and why.
 pub fn merge(
-    outline: &[i32],
-    store: &[i32],
+    ox: &[i32],
+    oy: &[i32],
+    sx: &[i32],
+    sy: &[i32],
     runs: &[u32],
     kept: usize,
     a: usize,
@@ -109,10 +122,10 @@ pub fn merge(
     b: usize,
     k: usize,
 ) -> Verdict
-    ensures { λ r. ⌜ verdictOf r ≡ verdict (mergeTests (wellFormed (now (outline .entry)) (now (store .entry)) (now (runs .entry))) (meaning (now (outline .entry)) (now (store .entry)) (now (runs .entry))) kept a gone b k) ⌝ }
+    ensures { λ r. ⌜ verdictOf r ≡ verdict (mergeTests (formed (lent (now (ox .entry)) (now (oy .entry)) (now (sx .entry)) (now (sy .entry)) (now (runs .entry)))) (means (lent (now (ox .entry)) (now (oy .entry)) (now (sx .entry)) (now (sy .entry)) (now (runs .entry)))) kept a gone b k) ⌝ }
 {
-    match districts::usable(outline, store, runs) {
-        Verdict::Accepted => judge_pair(store, runs, kept, a, gone, b, k),
+    match districts::usable(ox, oy, sx, sy, runs) {
+        Verdict::Accepted => judge_pair(sx, sy, runs, kept, a, gone, b, k),
         Verdict::Refused(r) => Verdict::Refused(r),
     }
 }

@@ -9,8 +9,9 @@ ghost use mathlib.Core.Bool.{not, true};
 ghost use Prim.Native.Nat.{_+_, _<_, _≤_};
 ghost use lib.Dec.{eqb};
 ghost use lib.ListN.{length};
-ghost use Rattle.districts.specs.Lists.{size as sizeOf, meaning};
-ghost use Rattle.districts.specs.WellFormed.{total as totalOf, wellFormed};
+ghost use Rattle.districts.specs.Lists.{size as sizeOf};
+ghost use Rattle.districts.specs.WellFormed.{total as totalOf};
+ghost use Rattle.districts.specs.Lent.{lent, formed, means};
 ghost use Rattle.refusals.specs.Verdicts.{verdict, verdictOf};
 ghost use Rattle.room.specs.Runs.{steps as stepsOf};
 ghost use Rattle.judging.specs.Splitting.{splitTests};
@@ -113,17 +114,19 @@ fn judge_district(runs: &[u32], d: usize, i: usize, j: usize, path: &[i32]) -> V
 
 // Whether the split is refused, and why.
 pub fn split(
-    outline: &[i32],
-    store: &[i32],
+    ox: &[i32],
+    oy: &[i32],
+    sx: &[i32],
+    sy: &[i32],
     runs: &[u32],
     d: usize,
     i: usize,
     j: usize,
     path: &[i32],
 ) -> Verdict
-    ensures { λ r. ⌜ verdictOf r ≡ verdict (splitTests (wellFormed (now (outline .entry)) (now (store .entry)) (now (runs .entry))) (meaning (now (outline .entry)) (now (store .entry)) (now (runs .entry))) d i j (now (path .entry))) ⌝ }
+    ensures { λ r. ⌜ verdictOf r ≡ verdict (splitTests (formed (lent (now (ox .entry)) (now (oy .entry)) (now (sx .entry)) (now (sy .entry)) (now (runs .entry)))) (means (lent (now (ox .entry)) (now (oy .entry)) (now (sx .entry)) (now (sy .entry)) (now (runs .entry)))) d i j (now (path .entry))) ⌝ }
 {
-    match districts::usable(outline, store, runs) {
+    match districts::usable(ox, oy, sx, sy, runs) {
         Verdict::Accepted => judge_district(runs, d, i, j, path),
         Verdict::Refused(r) => Verdict::Refused(r),
     }

@@ -15,6 +15,7 @@ ghost use mathlib.Core.Bool.{true, false, not};
 ghost use Prim.Native.Nat.{_+_, _≤_};
 ghost use lib.ListN.{length, drop};
 ghost use lib.Seq.{paste};
+ghost use Rattle.districts.specs.Lent.{lent};
 ghost use Rattle.history.specs.Turns.{Fresh};
 ghost use Rattle.wording.specs.Lines.{room};
 ghost use Rattle.stream.specs.declared.Stop.the-variants.{More};
@@ -105,21 +106,25 @@ fn turn(
     input: &mut [u8],
     output: &mut [u8],
     coordinates: &mut [i32; 4096],
-    outline: &mut [i32],
-    store: &mut [i32],
+    ox: &mut [i32],
+    oy: &mut [i32],
+    sx: &mut [i32],
+    sy: &mut [i32],
     runs: &mut [u32],
     d: Reading,
 ) -> Reading
-    requires { ⌜ Held d (now input) (record { outline = now outline; store = now store; runs = now runs }) ⌝ }
-    ensures { λ r. ⌜ Turned d r (now (input .entry)) (now (input .exit)) (record { outline = now (outline .entry); store = now (store .entry); runs = now (runs .entry) }) (record { outline = now (outline .exit); store = now (store .exit); runs = now (runs .exit) }) ⌝ }
+    requires { ⌜ Held d (now input) (lent (now ox) (now oy) (now sx) (now sy) (now runs)) ⌝ }
+    ensures { λ r. ⌜ Turned d r (now (input .entry)) (now (input .exit)) (lent (now (ox .entry)) (now (oy .entry)) (now (sx .entry)) (now (sy .entry)) (now (runs .entry))) (lent (now (ox .exit)) (now (oy .exit)) (now (sx .exit)) (now (sy .exit)) (now (runs .exit))) ⌝ }
 {
     let at = d.at;
     let end = d.end;
     let page = stream::print(
         &input[at..end],
         coordinates,
-        outline,
-        store,
+        ox,
+        oy,
+        sx,
+        sy,
         runs,
         output,
         d.tally,
@@ -144,12 +149,14 @@ fn read_all(
     input: &mut [u8],
     output: &mut [u8],
     coordinates: &mut [i32; 4096],
-    outline: &mut [i32],
-    store: &mut [i32],
+    ox: &mut [i32],
+    oy: &mut [i32],
+    sx: &mut [i32],
+    sy: &mut [i32],
     runs: &mut [u32],
 ) -> Reading
-    requires { ⌜ (length (now input) ≡ piece) × Fresh (record { outline = now outline; store = now store; runs = now runs }) ⌝ }
-    ensures { λ r. ⌜ Went (record { outline = now (outline .entry); store = now (store .entry); runs = now (runs .entry) }) r (now (input .exit)) (record { outline = now (outline .exit); store = now (store .exit); runs = now (runs .exit) }) ⌝ }
+    requires { ⌜ (length (now input) ≡ piece) × Fresh (lent (now ox) (now oy) (now sx) (now sy) (now runs)) ⌝ }
+    ensures { λ r. ⌜ Went (lent (now (ox .entry)) (now (oy .entry)) (now (sx .entry)) (now (sy .entry)) (now (runs .entry))) r (now (input .exit)) (lent (now (ox .exit)) (now (oy .exit)) (now (sx .exit)) (now (sy .exit)) (now (runs .exit))) ⌝ }
 {
     let mut d = Reading {
         tally: Tally::new(),
@@ -162,7 +169,7 @@ fn read_all(
     };
     let mut turns = ports::TRIES;
     while d.going & (0 < turns) {
-        d = turn(input, output, coordinates, outline, store, runs, d);
+        d = turn(input, output, coordinates, ox, oy, sx, sy, runs, d);
         turns -= 1;
     }
     d
@@ -219,15 +226,19 @@ fn main() {
     let mut input = [0u8; PIECE];
     let mut output = [0u8; PIECE];
     let mut coordinates = [0i32; 4096];
-    let mut outline = [0i32; 4096];
-    let mut store = [0i32; 4096];
+    let mut ox = [0i32; districts::COLUMN_LENGTH];
+    let mut oy = [0i32; districts::COLUMN_LENGTH];
+    let mut sx = [0i32; districts::COLUMN_LENGTH];
+    let mut sy = [0i32; districts::COLUMN_LENGTH];
     let mut runs = [0u32; 129];
     let d = read_all(
         &mut input,
         &mut output,
         &mut coordinates,
-        &mut outline,
-        &mut store,
+        &mut ox,
+        &mut oy,
+        &mut sx,
+        &mut sy,
         &mut runs,
     );
     close(&mut output, d);

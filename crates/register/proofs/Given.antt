@@ -9,8 +9,8 @@ use Rattle.refusals.proofs.Verdicts.{stops-at, passes, passed-all, stops-early,
 use Rattle.ring.specs.declared.Point.{Point}
 use Rattle.ring.specs.Grid.{point, beyond}
 use Rattle.districts.specs.Register.{Register}
-use Rattle.districts.specs.Lists.{district, meaning}
-use Rattle.districts.specs.WellFormed.{wellFormed}
+use Rattle.districts.specs.Lists.{district}
+use Rattle.districts.specs.Lent.{Lists, outlineOf, storeOf, formed, means}
 use Rattle.districts.specs.Lent.{beginning}
 use Rattle.districts.specs.Answers as Answers
 use Rattle.districts.specs.Answers.{Answer, report}
@@ -35,10 +35,10 @@ module _ (a b : ℤ) (x : Answer) where
   pub point-taken : (beyond a || beyond b) ≡ false → x ≡ given (verdict (pointTests a b)) x
   point-taken e = sym (ap (λ v. given v x) (passes 5 _ [] e ∙ passed-all))
 
-module _ (outline store : List ℤ) (runs : List ℕ) (good : wellFormed outline store runs ≡ true) where
+module _ (l : Lists) (good : formed l ≡ true) where
   -- sorting by the runs is sorting by the register that they mean
-  pub sorted-is : (R : Point) → sortedBy (λ d. liesTo R (district store runs d)) ≡ belongsTo (meaning outline store runs) R
+  pub sorted-is : (R : Point) → sortedBy (λ d. liesTo R (district (storeOf l) (l .runs) d)) ≡ belongsTo (means l) R
   unfolding belongsTo
   sorted-is R =
-      let slots = slot-is outline store runs (runs-length outline store runs good) in
+      let slots = slot-is (outlineOf l) (storeOf l) (l .runs) (runs-length l good) in
       λ i. sortedBy (λ d. liesTo R (sym (slots d) i))

@@ -6,3 +6,4 @@ pub mod ByPosition
 pub mod Unique
 pub mod Vectors
 pub mod Positions
+pub mod EitherWay

@@ -26,7 +26,7 @@ one-answer good g r x y a b e f = answerOf-injective a b (e ∙ sym f)
 pub one-answer-at : (good : Bool) (g : Register) (r : ℕ) (p : Position) (a b : Assigned) → answerOf a ≡ assignedAt good g r p → answerOf b ≡ assignedAt good g r p → a ≡ b
 one-answer-at good g r p a b e f = answerOf-injective a b (e ∙ sym f)
 
-outcomeOf-injective : (r s : Founded) → outcomeOf r ≡ outcomeOf s → r ≡ s
+pub outcomeOf-injective : (r s : Founded) → outcomeOf r ≡ outcomeOf s → r ≡ s
 outcomeOf-injective Done Done e = refl
 outcomeOf-injective Done (Refused q) e = let clash : _≡_ {A = ℕ} 0 1 = cc in absurd (let f : ⊥ = omega arith in f)
 outcomeOf-injective (Refused q) Done e = let clash : _≡_ {A = ℕ} 0 1 = cc in absurd (let f : ⊥ = omega arith in f)

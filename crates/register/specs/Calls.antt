@@ -1,12 +1,13 @@
 -- How founding's answer says a verdict, and what founding leaves in the lists. Assumes nothing.
-use Prim.Native.Nat.{ℕ, _/_}
+use Prim.Native.Nat.{ℕ}
 use mathlib.Core.Path.{_≡_}
 use mathlib.Core.List.{List}
 use lib.IntN.{ℤ}
 use lib.ListN.{length, set}
 use Rattle.refusals.specs.Numbers.{numberOf}
 use Rattle.refusals.specs.Verdicts.{Verdict, accept, refuse, verdict}
-use Rattle.districts.specs.Lent.{Lists, formed, means, Leaves, written}
+use Rattle.ring.specs.declared.Point.{Point}
+use Rattle.districts.specs.Lent.{Lists, outlineOf, storeOf, formed, means, Leaves, written}
 use Rattle.register.specs.declared.Founded.{Founded}
 use Rattle.register.specs.declared.Founded.the-variants.{Done, Refused}
 use Rattle.register.specs.Founding.{foundTests, founded}
@@ -20,8 +21,10 @@ abbrev pub placed : List ℕ → ℕ → List ℕ
 placed runs n = set (set (set runs 0 n) 1 0) 65 n
 
 -- what writing an outline leaves
-abbrev pub Wrote : List ℤ → Lists → Lists → Type 0
-Wrote xs before after = after ≡ record { outline = written xs (before .outline); store = written xs (before .store); runs = placed (before .runs) (length xs / 2) }
+pub record Wrote (P : List Point) (before after : Lists) : Type 0 where
+  pub outline : outlineOf after ≡ written P (outlineOf before)
+  pub store : storeOf after ≡ written P (storeOf before)
+  pub runs : after .runs ≡ placed (before .runs) (length P)
 
 -- what founding answers and leaves: the first refusal that holds, and the lists as they were; or the register with this outline and district 0
 pub record FoundBy (r : Founded) (xs : List ℤ) (before after : Lists) : Type 0 where

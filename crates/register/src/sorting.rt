@@ -1,4 +1,4 @@
-// Assigning a report: every district in turn, the part of the store that is its run handed to locating.
+// Assigning a report: every district in turn, the parts of the store's columns that are its run handed to locating.
 use districts::Assigned;
 use districts::Class;
 use districts::NUMBERS;
@@ -18,13 +18,13 @@ ghost use Rattle.exact.specs.Sign.{eqZ};
 ghost use Rattle.ring.specs.Choices.{pick};
 ghost use Rattle.ring.specs.Locate.{off, placeOf};
 ghost use Rattle.ring.specs.Walk.{OnGrid};
-ghost use Rattle.districts.specs.Lists.{district, meaning};
-ghost use Rattle.districts.specs.WellFormed.{wellFormed};
+ghost use Rattle.ring.specs.Columns.{points};
+ghost use Rattle.districts.specs.Lists.{district};
 ghost use Rattle.refusals.specs.Verdicts.{verdict};
 ghost use Rattle.districts.specs.Answers.{belongs, report, answerOf};
 ghost use Rattle.register.specs.Sorting.{liesTo, byCount, sortedBy, pointTests, given, assigned};
 ghost use Rattle.register.specs.Standing.{Stands};
-ghost use Rattle.districts.specs.Lent.{GoodRuns};
+ghost use Rattle.districts.specs.Lent.{lent, formed, means, GoodRuns};
 
 // How a point lies to one district.
 enum Stance {
@@ -66,19 +66,19 @@ fn lying(place: Located) -> Stance
 }
 
 // How r lies to district d; to an unused number it lies outside.
-fn lies(store: &[i32], runs: &[u32], d: usize, r: Point) -> Stance
-    requires { ⌜ GoodRuns (now store) (now runs) ⌝ }
+fn lies(sx: &[i32], sy: &[i32], runs: &[u32], d: usize, r: Point) -> Stance
+    requires { ⌜ GoodRuns (now sx) (now sy) (now runs) ⌝ }
     requires { ⌜ d < 64 ⌝ }
     requires { ⌜ OnGrid r ⌝ }
-    ensures { λ s. ⌜ Stands s (liesTo r (district (now (store .entry)) (now (runs .entry)) d)) ⌝ }
+    ensures { λ s. ⌜ Stands s (liesTo r (district (points (now (sx .entry)) (now (sy .entry))) (now (runs .entry)) d)) ⌝ }
 {
     let n = districts::size(runs, d);
     if n == 0 {
         return Stance::Outside;
     }
-    let from = 2 * districts::first_place(runs, d);
-    let to = from + 2 * n;
-    lying(ring::locate_on(&store[from..to], n, r))
+    let from = districts::first_place(runs, d);
+    let to = from + n;
+    lying(columns::locate_on(&sx[from..to], &sy[from..to], r))
 }
 
 impl Seen {
@@ -112,10 +112,10 @@ impl Seen {
     }
 }
 
-fn sort(store: &[i32], runs: &[u32], r: Point) -> Class
-    requires { ⌜ GoodRuns (now store) (now runs) ⌝ }
+fn sort(sx: &[i32], sy: &[i32], runs: &[u32], r: Point) -> Class
+    requires { ⌜ GoodRuns (now sx) (now sy) (now runs) ⌝ }
     requires { ⌜ OnGrid r ⌝ }
-    ensures { λ c. ⌜ belongs c ≡ sortedBy (λ d. liesTo r (district (now (store .entry)) (now (runs .entry)) d)) ⌝ }
+    ensures { λ c. ⌜ belongs c ≡ sortedBy (λ d. liesTo r (district (points (now (sx .entry)) (now (sy .entry))) (now (runs .entry)) d)) ⌝ }
 {
     let mut seen = Seen {
         lowest: NUMBERS,
@@ -123,7 +123,7 @@ fn sort(store: &[i32], runs: &[u32], r: Point) -> Class
     };
     let mut d = 0;
     while d < NUMBERS {
-        match lies(store, runs, d, r) {
+        match lies(sx, sy, runs, d, r) {
             Stance::On(touch) => return Class::Border(d, touch),
             Stance::Inside => seen = seen.with(d),
             Stance::Outside => {}
@@ -134,25 +134,34 @@ fn sort(store: &[i32], runs: &[u32], r: Point) -> Class
 }
 
 // Where report `number` at r belongs, in a register that is well-formed and has an outline.
-fn place(store: &[i32], runs: &[u32], number: u32, r: Point) -> Assigned
-    requires { ⌜ GoodRuns (now store) (now runs) ⌝ }
-    ensures { λ a. ⌜ answerOf a ≡ given (verdict (pointTests (r .x) (r .y))) (report number (sortedBy (λ d. liesTo r (district (now (store .entry)) (now (runs .entry)) d)))) ⌝ }
+fn place(sx: &[i32], sy: &[i32], runs: &[u32], number: u32, r: Point) -> Assigned
+    requires { ⌜ GoodRuns (now sx) (now sy) (now runs) ⌝ }
+    ensures { λ a. ⌜ answerOf a ≡ given (verdict (pointTests (r .x) (r .y))) (report number (sortedBy (λ d. liesTo r (district (points (now (sx .entry)) (now (sy .entry))) (now (runs .entry)) d)))) ⌝ }
 {
     if ring::beyond(r.x) | ring::beyond(r.y) {
         return Assigned::Refused(Refusal::BeyondGrid);
     }
     Assigned::Sorted(Report {
         number,
-        class: sort(store, runs, r),
+        class: sort(sx, sy, runs, r),
     })
 }
 
 // Where report `number` at (x, y) belongs.
-pub fn assign(outline: &[i32], store: &[i32], runs: &[u32], number: u32, x: i32, y: i32) -> Assigned
-    ensures { λ r. ⌜ answerOf r ≡ assigned (wellFormed (now (outline .entry)) (now (store .entry)) (now (runs .entry))) (meaning (now (outline .entry)) (now (store .entry)) (now (runs .entry))) number x y ⌝ }
+pub fn assign(
+    ox: &[i32],
+    oy: &[i32],
+    sx: &[i32],
+    sy: &[i32],
+    runs: &[u32],
+    number: u32,
+    x: i32,
+    y: i32,
+) -> Assigned
+    ensures { λ r. ⌜ answerOf r ≡ assigned (formed (lent (now (ox .entry)) (now (oy .entry)) (now (sx .entry)) (now (sy .entry)) (now (runs .entry)))) (means (lent (now (ox .entry)) (now (oy .entry)) (now (sx .entry)) (now (sy .entry)) (now (runs .entry)))) number x y ⌝ }
 {
-    match districts::usable(outline, store, runs) {
-        Verdict::Accepted => place(store, runs, number, Point { x, y }),
+    match districts::usable(ox, oy, sx, sy, runs) {
+        Verdict::Accepted => place(sx, sy, runs, number, Point { x, y }),
         Verdict::Refused(r) => Assigned::Refused(r),
     }
 }

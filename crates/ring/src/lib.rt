@@ -1,6 +1,6 @@
 // Where a grid point lies against one closed ring: at vertices, on edges, or off the ring with its winding number, which is Hormann and
 // Agathos' by quarter turns; the code counts crossings, which is proved to come to the same. The call for everybody is `locate`; it has no
-// `requires`. The crates above that know their rings to be good use `locate_on`, which tests nothing again.
+// `requires`.
 mod counting;
 mod grid;
 mod places;
@@ -20,7 +20,6 @@ pub use places::Met;
 pub use places::Span;
 use refusals::Refusal;
 pub use walk::found;
-pub use walk::locate_on;
 pub use walk::off;
 ghost use mathlib.Core.Path.{_≡_};
 ghost use Prim.Native.Nat.{_/_};
@@ -77,8 +76,11 @@ pub fn locate(ring: &[i32], x: i32, y: i32) -> Located
     ensures { λ r. ⌜ placeOf r ≡ located (now (ring .entry)) x y ⌝ }
 {
     let m = ring.len();
-    if (m < LEAST_SHORT) | (MOST_SHORT < m) {
-        return locate_long(&ring[0..m], x, y);
+    if MOST_SHORT < m {
+        return locate_long(&ring[0..m], Point { x, y });
+    }
+    if m < LEAST_SHORT {
+        return locate_long(&ring[0..m], Point { x, y });
     }
     if m % 2 == 1 {
         return Located::Refused(Refusal::NoRing);
@@ -94,16 +96,17 @@ pub fn locate(ring: &[i32], x: i32, y: i32) -> Located
     walk::off(c)
 }
 
-// The same where the list is not that of a short ring.
-fn locate_long(ring: &[i32], x: i32, y: i32) -> Located
-    ensures { λ r. ⌜ placeOf r ≡ located (now (ring .entry)) x y ⌝ }
+// The same where the list is not that of a short ring. `locate` calls it twice, since a function that is called once is set into its caller, and
+// then a short ring pays for the registers of a long one.
+fn locate_long(ring: &[i32], r: Point) -> Located
+    ensures { λ l. ⌜ placeOf l ≡ located (now (ring .entry)) (r .x) (r .y) ⌝ }
 {
     let m = ring.len();
     if no_ring(m) {
         return Located::Refused(Refusal::NoRing);
     }
-    if some_beyond(ring) | (beyond(x) | beyond(y)) {
+    if some_beyond(ring) | (beyond(r.x) | beyond(r.y)) {
         return Located::Refused(Refusal::BeyondGrid);
     }
-    locate_on(ring, m / 2, Point { x, y })
+    walk::locate_on(ring, m / 2, r)
 }

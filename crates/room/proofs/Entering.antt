@@ -8,18 +8,17 @@ use mathlib.Core.Path.{_≡_, sym, ap, _∙_}
 use mathlib.Core.Bool.{true, false}
 use mathlib.Core.List.{List, _++_}
 use mathlib.Core.Logic.{inl, inr}
-use lib.IntN.{ℤ}
 use lib.ListN.{length, getD, take, drop, set, length-set, length-append, length-drop}
 use lib.Seq.{length-take-le, take-at, drop-at, getD-set-same, getD-set-other}
 use Rattle.ring.specs.declared.Point.{Point}
-use Rattle.ring.specs.Grid.{vertices, someBeyond}
+use Rattle.ring.specs.Grid.{someBeyond}
 use Rattle.districts.specs.Register.{ring}
 use Rattle.districts.specs.Lists.{outlineSize, firstPlace, size, part, held, district, meaning}
-use Rattle.districts.specs.WellFormed.{sized, total, wellFormed}
+use Rattle.districts.specs.WellFormed.{sized, total}
 use Rattle.districts.proofs.Meaning.{part-within, ring-when}
-use Rattle.room.specs.Writing.{behind, entered, Added}
-use Rattle.room.proofs.Forms.{Clear, Sound, sound, formed, size-allowed}
-use Rattle.room.proofs.Parts.{part-add, append-on-grid, held-same, sum-but-one, meaning-but-one}
+use Rattle.room.specs.Writing.{numbersOf, behind, entered, Added}
+use Rattle.room.proofs.Forms.{Clear, Sound, size-allowed}
+use Rattle.room.proofs.Parts.{part-add, both-on-grid, held-same, sum-but-one, meaning-but-one}
 
 -- the runs after a number took m vertices from a place on
 module _ (runs : List ℕ) (e place m : ℕ) (long : length runs ≡ 129) (below : e < 64) where
@@ -57,21 +56,18 @@ module _ (runs : List ℕ) (e place m : ℕ) (long : length runs ≡ 129) (below
       let but-one : total after + size runs e ≡ total runs + size after e = sum-but-one (size after) (size runs) 64 e below (λ d h. entered-other-size d) in
       omega (arith, entered-size)
 
-pub added-total : (store : List ℤ) (runs : List ℕ) (e : ℕ) (P : List Point) (store′ : List ℤ) (runs′ : List ℕ) → length runs ≡ 129 → e < 64 → size runs e ≡ 0 → Added store runs e P store′ runs′ → total runs′ ≡ total runs + length P
+pub added-total : (store : List Point) (runs : List ℕ) (e : ℕ) (P : List Point) (store′ : List Point) (runs′ : List ℕ) → length runs ≡ 129 → e < 64 → size runs e ≡ 0 → Added store runs e P store′ runs′ → total runs′ ≡ total runs + length P
 added-total store runs e P store′ runs′ long below free a = ap total (a .1) ∙ entered-total runs e (total runs) (length P) long below free
 
-module _ (outline store : List ℤ) (runs : List ℕ) (e m : ℕ) (xs : List ℤ)
-    (good : wellFormed outline store runs ≡ true) (some : 0 < outlineSize runs) (below : e < 64) (free : size runs e ≡ 0)
-    (even : length xs ≡ m + m) (least : 3 ≤ m) (room : total runs + m ≤ 2048) (grid : someBeyond xs ≡ false) where
+module _ (outline store : List Point) (runs : List ℕ) (e m : ℕ) (P : List Point)
+    (s : Sound outline store runs) (some : 0 < outlineSize runs) (below : e < 64) (free : size runs e ≡ 0)
+    (many : length P ≡ m) (least : 3 ≤ m) (room : total runs + m ≤ 2048) (grid : someBeyond (numbersOf P) ≡ false) where
   -- the runs and the store afterwards
   runs′ : List ℕ
   runs′ = entered runs e (total runs) m
 
-  store′ : List ℤ
-  store′ = behind store (total runs + total runs) xs
-
-  s : Sound outline store runs
-  s = sound outline store runs good
+  store′ : List Point
+  store′ = behind store (total runs) P
 
   outline-same : outlineSize runs′ ≡ outlineSize runs
   unfolding runs′
@@ -99,20 +95,20 @@ module _ (outline store : List ℤ) (runs : List ℕ) (e m : ℕ) (xs : List ℤ
 
   -- ---- the store
 
-  head-length : length (take (total runs + total runs) store) ≡ total runs + total runs
-  head-length = length-take-le (total runs + total runs) store (omega (arith, s .store-length))
+  head-length : length (take (total runs) store) ≡ total runs
+  head-length = length-take-le (total runs) store (omega (arith, s .store-length))
 
   lower : part store′ 0 (total runs) ≡ part store 0 (total runs)
   unfolding store′
-  lower = take-at (take (total runs + total runs) store) _ (total runs + total runs) head-length
+  lower = take-at (take (total runs) store) _ (total runs) head-length
 
-  own : part store′ (total runs) m ≡ xs
+  own : part store′ (total runs) m ≡ P
   unfolding store′
   own =
-      ap (λ l. take (m + m) l) (drop-at (take (total runs + total runs) store) _ (total runs + total runs) head-length)
-      ∙ take-at xs (drop (total runs + total runs + length xs) store) (m + m) even
+      ap (take m) (drop-at (take (total runs) store) _ (total runs) head-length)
+      ∙ take-at P (drop (total runs + length P) store) m many
 
-  store-long : length store′ ≡ 4096
+  store-long : length store′ ≡ 2048
   unfolding store′
   store-long = simp (length-append, length-drop) (omega (arith, head-length, s .store-length))
 
@@ -155,13 +151,13 @@ module _ (outline store : List ℤ) (runs : List ℕ) (e m : ℕ) (xs : List ℤ
       say other another (inl f) = inl (omega (arith, size-other d other, place-other d h other, place-other k b another))
       say other another (inr f) = inr (omega (arith, size-other k another, place-other d h other, place-other k b another))
 
-  all-on-grid : someBeyond (part store′ 0 (total runs′)) ≡ false
+  all-on-grid : someBeyond (numbersOf (part store′ 0 (total runs′))) ≡ false
   all-on-grid =
-      ap (λ n. someBeyond (part store′ 0 n)) total-of
-      ∙ ap someBeyond (part-add store′ 0 (total runs) m ∙ (λ i. lower i ++ behind i))
-      ∙ append-on-grid (part store 0 (total runs)) xs (s .store-grid) grid
+      ap (λ n. someBeyond (numbersOf (part store′ 0 n))) total-of
+      ∙ ap (λ Q. someBeyond (numbersOf Q)) (part-add store′ 0 (total runs) m ∙ (λ i. lower i ++ behind i))
+      ∙ both-on-grid (part store 0 (total runs)) P (s .store-grid) grid
     where
-      behind : part store′ (0 + total runs) m ≡ xs
+      behind : part store′ (0 + total runs) m ≡ P
       behind = ap (λ p. part store′ p m) (zero-add (total runs)) ∙ own
 
   facts : Sound outline store′ runs′
@@ -176,20 +172,20 @@ module _ (outline store : List ℤ) (runs : List ℕ) (e m : ℕ) (xs : List ℤ
     beside = λ (f : outlineSize runs′ ≡ 0). absurd (omega (arith, outline-same));
     inside = within-all;
     apart = clear;
-    outline-grid = ap (λ n. someBeyond (part outline 0 n)) outline-same ∙ s .outline-grid;
+    outline-grid = ap (λ n. someBeyond (numbersOf (part outline 0 n))) outline-same ∙ s .outline-grid;
     store-grid = all-on-grid;
   }
 
   -- ---- together
 
-  sense : meaning outline store′ runs′ ≡ record { outline = meaning outline store runs .outline; districts = set (meaning outline store runs .districts) e (ring (vertices xs)) }
-  sense = meaning-but-one outline store store′ runs runs′ e (ring (vertices xs)) outline-same (λ h. new) kept
+  sense : meaning outline store′ runs′ ≡ record { outline = meaning outline store runs .outline; districts = set (meaning outline store runs .districts) e (ring P) }
+  sense = meaning-but-one outline store store′ runs runs′ e (ring P) outline-same (λ h. new) kept
     where
-      new : district store′ runs′ e ≡ ring (vertices xs)
+      new : district store′ runs′ e ≡ ring P
       new =
           (λ i. held store′ (place-own i) (size-own i))
           ∙ ring-when store′ (total runs) m (λ (f : m ≡ 0). omega arith)
-          ∙ ap (λ l. ring (vertices l)) own
+          ∙ ap ring own
 
       kept : (d : ℕ) → d < 64 → (d ≡ e → ⊥) → district store′ runs′ d ≡ district store runs d
       kept d h other = ap (λ p. held store′ p (size runs′ d)) (place-other d h other)
@@ -198,11 +194,11 @@ module _ (outline store : List ℤ) (runs : List ℕ) (e m : ℕ) (xs : List ℤ
           ∙ ap (λ l. part l (firstPlace runs d) (size runs d)) lower
           ∙ part-within store (firstPlace runs d) (size runs d) (total runs) (s .inside d h used))
 
-  pub entered-well-formed : wellFormed outline (behind store (total runs + total runs) xs) (entered runs e (total runs) m) ≡ true
+  pub entered-sound : Sound outline (behind store (total runs) P) (entered runs e (total runs) m)
   unfolding runs′ store′
-  entered-well-formed = formed facts
+  entered-sound = facts
 
-  pub entered-meaning : meaning outline (behind store (total runs + total runs) xs) (entered runs e (total runs) m)
-      ≡ record { outline = meaning outline store runs .outline; districts = set (meaning outline store runs .districts) e (ring (vertices xs)) }
+  pub entered-meaning : meaning outline (behind store (total runs) P) (entered runs e (total runs) m)
+      ≡ record { outline = meaning outline store runs .outline; districts = set (meaning outline store runs .districts) e (ring P) }
   unfolding runs′ store′
   entered-meaning = sense

@@ -8,29 +8,26 @@ use mathlib.Core.Path.{_≡_, sym, ap, _∙_}
 use mathlib.Core.Bool.{true, false}
 use mathlib.Core.List.{List, _++_}
 use mathlib.Core.Logic.{_⊎_, inl, inr}
-use lib.IntN.{ℤ}
 use lib.ListN.{set}
 use borrow.Author.Tests.{le-leb, lt-leb}
+use Rattle.ring.specs.declared.Point.{Point}
 use Rattle.ring.specs.Grid.{someBeyond}
 use Rattle.ring.proofs.Pick.{pick-true, pick-false}
 use Rattle.districts.specs.Register.{unused}
 use Rattle.districts.specs.Lists.{outlineSize, firstPlace, size, part, meaning}
-use Rattle.districts.specs.WellFormed.{sized, total, wellFormed}
-use Rattle.districts.proofs.Meaning.{part-within, part-on-grid, unused-when}
-use Rattle.room.specs.Writing.{Left}
-use Rattle.room.proofs.Forms.{Clear, Sound, sound, formed}
-use Rattle.room.proofs.Parts.{part-add, part-carried, append-on-grid, held-same, sum-but-one, meaning-but-one}
+use Rattle.districts.specs.WellFormed.{sized, total}
+use Rattle.districts.proofs.Meaning.{part-within, unused-when}
+use Rattle.room.specs.Writing.{numbersOf, Left}
+use Rattle.room.proofs.Forms.{Clear, Sound}
+use Rattle.room.proofs.Parts.{part-add, part-carried, points-on-grid, both-on-grid, held-same, sum-but-one, meaning-but-one}
 
-pub left-total : (store : List ℤ) (runs : List ℕ) (d : ℕ) (store′ : List ℤ) (runs′ : List ℕ) → d < 64 → Left store runs d store′ runs′ → total runs′ + size runs d ≡ total runs
+pub left-total : (store : List Point) (runs : List ℕ) (d : ℕ) (store′ : List Point) (runs′ : List ℕ) → d < 64 → Left store runs d store′ runs′ → total runs′ + size runs d ≡ total runs
 left-total store runs d store′ runs′ below l =
     let but-one : total runs′ + size runs d ≡ total runs + size runs′ d = sum-but-one (size runs′) (size runs) 64 d below (l .sizes) in
     omega (arith, l .gone)
 
-module _ (outline store : List ℤ) (runs : List ℕ) (d : ℕ) (store′ : List ℤ) (runs′ : List ℕ)
-    (good : wellFormed outline store runs ≡ true) (below : d < 64) (used : 0 < size runs d) (l : Left store runs d store′ runs′) where
-  s : Sound outline store runs
-  s = sound outline store runs good
-
+module _ (outline store : List Point) (runs : List ℕ) (d : ℕ) (store′ : List Point) (runs′ : List ℕ)
+    (s : Sound outline store runs) (below : d < 64) (used : 0 < size runs d) (l : Left store runs d store′ runs′) where
   fits : firstPlace runs d + size runs d ≤ total runs
   fits = s .inside d below used
 
@@ -96,13 +93,13 @@ module _ (outline store : List ℤ) (runs : List ℕ) (d : ℕ) (store′ : List
       say (inr x) (inr y) (inl f) = inl (omega (arith, x .1, y .1, its, other))
       say (inr x) (inr y) (inr f) = inr (omega (arith, x .1, y .1, its, other))
 
-  all-on-grid : someBeyond (part store′ 0 (total runs′)) ≡ false
+  all-on-grid : someBeyond (numbersOf (part store′ 0 (total runs′))) ≡ false
   all-on-grid =
-      ap (λ n. someBeyond (part store′ 0 n)) count
-      ∙ ap someBeyond (part-add store′ 0 (firstPlace runs d) after ∙ (λ i. l .lower i ++ behind i))
-      ∙ append-on-grid (part store 0 (firstPlace runs d)) (part store (firstPlace runs d + size runs d) after)
-      (part-on-grid store 0 (firstPlace runs d) (total runs) (omega (arith, fits)) (s .store-grid))
-      (part-on-grid store (firstPlace runs d + size runs d) after (total runs) (omega (arith, fits)) (s .store-grid))
+      ap (λ n. someBeyond (numbersOf (part store′ 0 n))) count
+      ∙ ap (λ P. someBeyond (numbersOf P)) (part-add store′ 0 (firstPlace runs d) after ∙ (λ i. l .lower i ++ behind i))
+      ∙ both-on-grid (part store 0 (firstPlace runs d)) (part store (firstPlace runs d + size runs d) after)
+      (points-on-grid store 0 (firstPlace runs d) (total runs) (omega (arith, fits)) (s .store-grid))
+      (points-on-grid store (firstPlace runs d + size runs d) after (total runs) (omega (arith, fits)) (s .store-grid))
     where
       after : ℕ
       after = total runs - (firstPlace runs d + size runs d)
@@ -113,8 +110,8 @@ module _ (outline store : List ℤ) (runs : List ℕ) (d : ℕ) (store′ : List
       behind : part store′ (0 + firstPlace runs d) after ≡ part store (firstPlace runs d + size runs d) after
       behind = ap (λ p. part store′ p after) (zero-add (firstPlace runs d)) ∙ l .moved
 
-  facts : Sound outline store′ runs′
-  facts = record {
+  pub left-sound : Sound outline store′ runs′
+  left-sound = record {
     outline-length = s .outline-length;
     store-length = l .long-store;
     runs-length = l .long-runs;
@@ -124,7 +121,7 @@ module _ (outline store : List ℤ) (runs : List ℕ) (d : ℕ) (store′ : List
     beside = λ (f : outlineSize runs′ ≡ 0). let none = s .beside (sym (l .outline-same) ∙ f) in omega (arith, none, total-of);
     inside = within;
     apart = clear;
-    outline-grid = ap (λ n. someBeyond (part outline 0 n)) (l .outline-same) ∙ s .outline-grid;
+    outline-grid = ap (λ n. someBeyond (numbersOf (part outline 0 n))) (l .outline-same) ∙ s .outline-grid;
     store-grid = all-on-grid;
   }
 
@@ -151,9 +148,6 @@ module _ (outline store : List ℤ) (runs : List ℕ) (d : ℕ) (store′ : List
           ∙ ap (λ p. part store p (size runs e)) old
 
   -- ---- together
-
-  pub left-well-formed : wellFormed outline store′ runs′ ≡ true
-  left-well-formed = formed facts
 
   pub left-meaning : meaning outline store′ runs′
       ≡ record { outline = meaning outline store runs .outline; districts = set (meaning outline store runs .districts) d unused }

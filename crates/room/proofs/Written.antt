@@ -1,11 +1,11 @@
 -- Points as numbers and back, the vertices of a run and of a path read backwards, and a list of points that is written one after the
--- other. Assumes nothing.
+-- other to two columns. Assumes nothing.
 use Prim.Native.Nat.{ℕ, zero, suc, _+_, _-_, _*_, _%_, _≤_, _<_}
 use native.Mathlib.Nat.{add-zero, mod-eq-of-lt, mod-add-mod}
 use native.Mathlib.Decide.{ℕ-discrete}
 use native.Mathlib.Numerals.{add-one}
 use native.Mathlib.Omega.{arith}
-use mathlib.Core.Path.{_≡_, refl, sym, ap, _∙_}
+use mathlib.Core.Path.{_≡_, refl, sym, ap, subst, transport, _∙_}
 use mathlib.Core.List.{List, [], _∷_, _++_, append-assoc, append-nil, reverse, reverse-cons}
 use lib.IntN.{ℤ, pos}
 use lib.ListN.{length, getD, take, drop, set, length-set, length-append, length-drop, length-reverse, drop-of-length-le, List·getD-append}
@@ -14,18 +14,13 @@ use borrow.Rule.Slice.PartMut.{midOf, putMid}
 use Rattle.ring.specs.declared.Point.{Point}
 use Rattle.ring.specs.Grid.{vertices}
 use Rattle.ring.specs.Rings.{at}
+use Rattle.ring.specs.Columns.{points}
+use Rattle.ring.proofs.Columns.{points-take, points-drop, points-append, points-set, points-long, length-points}
 use Rattle.ring.proofs.Vertices.{origin, length-vertices}
-use Rattle.districts.specs.Lists.{part}
 use Rattle.districts.specs.WellFormed.{total}
 use Rattle.districts.specs.Lent.{written}
-use Rattle.districts.proofs.Lent.{part-length}
 use Rattle.room.specs.Runs.{run}
 use Rattle.room.specs.Writing.{numbersOf, behind, entered, Added}
-
-pub numbers-append : (P Q : List Point) → numbersOf (P ++ Q) ≡ numbersOf P ++ numbersOf Q
-unfolding numbersOf
-numbers-append [] Q = refl
-numbers-append (p ∷ P) Q = ap (λ xs. p .x ∷ p .y ∷ xs) (numbers-append P Q)
 
 pub numbers-length : (P : List Point) → length (numbersOf P) ≡ length P + length P
 unfolding numbersOf
@@ -97,65 +92,63 @@ reverse-at (p ∷ W) t h = ap (λ l. getD l t origin) (reverse-cons p W) ∙ say
         ∙ before (omega arith)
         ∙ ap (λ k. getD (p ∷ W) k origin) (sym k)
 
--- ---- one vertex after the other
+-- ---- one after the other
 
-pub record Writing (L : List Point) (to₀ to : List ℤ) (t : ℕ) : Type 0 where
+pub record Writing {A : Type 0} (L to₀ to : List A) (t : ℕ) : Type 0 where
   pub le : t ≤ length L
-  pub long : length to ≡ length to₀
-  pub so-far : to ≡ written (numbersOf (take t L)) to₀
+  pub so-far : to ≡ written (take t L) to₀
 
-pub writing-none : (L : List Point) (to : List ℤ) → Writing L to to 0
-unfolding numbersOf
-writing-none L to = record { le = omega arith; long = refl; so-far = refl }
+pub writing-none : {A : Type 0} (L to : List A) → Writing L to to 0
+writing-none L to = record { le = omega arith; so-far = refl }
 
--- two numbers are written over the first two of the rest
-two-more : (a to : List ℤ) (n : ℕ) (x y : ℤ) → length a ≡ n + n → n + n + 1 < length to → set (set (written a to) (2 * n) x) (2 * n + 1) y ≡ written (a ++ (x ∷ y ∷ [])) to
-two-more a to n x y e h =
-    let rest = drop (suc (suc (n + n))) to in
-    let f : 2 * n ≡ n + n = omega arith in
-    let g : 2 * n + 1 ≡ suc (n + n) = omega arith in
-    let two : drop (length a) to ≡ getD to (n + n) (pos 0) ∷ getD to (suc (n + n)) (pos 0) ∷ rest =
-    ap (λ k. drop k to) e ∙ drop-cons to (n + n) (pos 0) (omega arith) ∙ ap (λ l. getD to (n + n) (pos 0) ∷ l) (drop-cons to (suc (n + n)) (pos 0) (omega arith)) in
-    let one-more : length (a ++ (x ∷ [])) ≡ suc (n + n) = length-append a (x ∷ []) ∙ omega arith in
-    let all : length (a ++ (x ∷ y ∷ [])) ≡ suc (suc (n + n)) = length-append a (x ∷ y ∷ []) ∙ omega arith in
-    (λ i. set (set (a ++ two i) (f i) x) (g i) y)
-    ∙ ap (λ l. set l (suc (n + n)) y) (set-at a (getD to (n + n) (pos 0)) (getD to (suc (n + n)) (pos 0) ∷ rest) x (n + n) e)
-    ∙ ap (λ l. set l (suc (n + n)) y) (sym (append-snoc a x (getD to (suc (n + n)) (pos 0) ∷ rest)))
-    ∙ set-at (a ++ (x ∷ [])) (getD to (suc (n + n)) (pos 0)) rest y (suc (n + n)) one-more
-    ∙ append-snoc a x (y ∷ rest)
-    ∙ sym (append-assoc a (x ∷ y ∷ []) (drop (length (a ++ (x ∷ y ∷ []))) to) ∙ ap (λ k. a ++ (x ∷ y ∷ drop k to)) all)
+-- one is written over the first of the rest
+one-more : {A : Type 0} (a : A) (xs to : List A) (n : ℕ) (x : A) → length xs ≡ n → n < length to → set (written xs to) n x ≡ written (xs ++ (x ∷ [])) to
+one-more a xs to n x e h =
+    let more : length (xs ++ (x ∷ [])) ≡ suc n = length-append xs (x ∷ []) ∙ omega arith in
+    ap (λ l. set (xs ++ l) n x) (ap (λ k. drop k to) e ∙ drop-cons to n a h)
+    ∙ set-at xs (getD to n a) (drop (suc n) to) x n e
+    ∙ sym (append-snoc xs x (drop (length (xs ++ (x ∷ []))) to) ∙ ap (λ k. xs ++ (x ∷ drop k to)) more)
 
-pub writing-more : (L : List Point) (to₀ to : List ℤ) (t : ℕ) (p : Point) → t < length L → length L + length L ≤ length to₀ → p ≡ getD L t origin
-    → Writing L to₀ to t → Writing L to₀ (set (set to (2 * t) (p .x)) (2 * t + 1) (p .y)) (t + 1)
-unfolding numbersOf
-writing-more L to₀ to t p h k e w = record {
+pub writing-more : {A : Type 0} (a : A) (L to₀ to : List A) (t : ℕ) (x : A) → t < length L → length L ≤ length to₀ → x ≡ getD L t a → Writing L to₀ to t → Writing L to₀ (set to t x) (t + 1)
+writing-more a L to₀ to t x h k e w = record {
   le = omega arith;
-  long = length-set (set to (2 * t) (p .x)) (2 * t + 1) (p .y) ∙ length-set to (2 * t) (p .x) ∙ w .long;
   so-far =
-      ap (λ l. set (set l (2 * t) (p .x)) (2 * t + 1) (p .y)) (w .so-far)
-      ∙ two-more (numbersOf (take t L)) to₀ t (p .x) (p .y) (numbers-length (take t L) ∙ (λ i. length-take-le t L (omega arith) i + length-take-le t L (omega arith) i)) (omega arith)
-      ∙ ap (λ l. written l to₀) (
-      sym (numbers-append (take t L) (p ∷ []))
-      ∙ ap (λ q. numbersOf (take t L ++ (q ∷ []))) e
-      ∙ ap numbersOf (sym (take-suc L t origin h) ∙ ap (λ m. take m L) (sym (add-one t))));
+      ap (λ l. set l t x) (w .so-far)
+      ∙ one-more a (take t L) to₀ t x (length-take-le t L (omega arith)) (omega arith)
+      ∙ ap (λ l. written l to₀) (ap (λ y. take t L ++ (y ∷ [])) e ∙ sym (take-suc L t a h) ∙ ap (λ m. take m L) (sym (add-one t)));
 }
 
-pub writing-all : (L : List Point) (to₀ to : List ℤ) (t : ℕ) → length L ≤ t → Writing L to₀ to t → to ≡ written (numbersOf L) to₀
-writing-all L to₀ to t h w = w .so-far ∙ ap (λ l. written (numbersOf l) to₀) (take-all t L h)
+pub writing-all : {A : Type 0} (L to₀ to : List A) (t : ℕ) → length L ≤ t → Writing L to₀ to t → to ≡ written L to₀
+writing-all L to₀ to t h w = w .so-far ∙ ap (λ l. written l to₀) (take-all t L h)
 
--- ---- in the tail of a list
+-- a point is written by its two numbers
+pub put-more : (L : List Point) (xs₀ ys₀ xs ys : List ℤ) (t : ℕ) (p : Point) (us vs : List ℤ) → t < length L → length L ≤ length xs₀ → length L ≤ length ys₀ → p ≡ getD L t origin
+    → (us ≡ set xs t (p .x)) × (vs ≡ set ys t (p .y)) → Writing L (points xs₀ ys₀) (points xs ys) t → Writing L (points xs₀ ys₀) (points us vs) (t + 1)
+put-more L xs₀ ys₀ xs ys t p us vs h j k e f w =
+    subst (λ Q. Writing L (points xs₀ ys₀) Q (t + 1)) (points-set xs ys t (p .x) (p .y) ∙ (λ i. points (sym (f .0) i) (sym (f .1) i))) (writing-more origin L (points xs₀ ys₀) (points xs ys) t p h (points-long (length L) xs₀ ys₀ j k) e w)
 
-pub tail-written : (xs : List ℤ) (a : ℕ) (ys : List ℤ) → putMid a (length xs - a) xs (written ys (midOf a (length xs - a) xs)) ≡ behind xs a ys
-tail-written xs a ys =
-    let tail = drop a xs in
-    let long : length tail ≤ length xs - a = omega (arith, length-drop a xs) in
-    let whole : midOf a (length xs - a) xs ≡ tail = take-all (length xs - a) tail long in
-    let none : drop (length xs - a) tail ≡ [] = drop-of-length-le tail long in
-    (λ i. take a xs ++ ((ys ++ drop (length ys) (whole i)) ++ none i))
-    ∙ ap (λ l. take a xs ++ l) (append-nil (ys ++ drop (length ys) tail) ∙ ap (λ l. ys ++ l) (drop-drop (length ys) a xs))
+-- ---- in the tails of two columns
+
+tail-only : (xs us : List ℤ) (a : ℕ) → putMid a (length xs - a) xs us ≡ take a xs ++ us
+tail-only xs us a =
+    let long : length (drop a xs) ≤ length xs - a = omega (arith, length-drop a xs) in
+    ap (λ l. take a xs ++ (us ++ l)) (drop-of-length-le (drop a xs) long) ∙ ap (λ l. take a xs ++ l) (append-nil us)
+
+tail-of : (xs : List ℤ) (a : ℕ) → midOf a (length xs - a) xs ≡ drop a xs
+tail-of xs a = take-all (length xs - a) (drop a xs) (omega (arith, length-drop a xs))
+
+-- points are written to the tails
+pub tails-written : (xs ys us vs : List ℤ) (a : ℕ) (P : List Point) → a ≤ length xs → a ≤ length ys
+    → points us vs ≡ written P (points (midOf a (length xs - a) xs) (midOf a (length ys - a) ys))
+    → points (putMid a (length xs - a) xs us) (putMid a (length ys - a) ys vs) ≡ behind (points xs ys) a P
+tails-written xs ys us vs a P h k e =
+    (λ i. points (tail-only xs us a i) (tail-only ys vs a i))
+    ∙ points-append (take a xs) (take a ys) us vs (length-take-le a xs h ∙ sym (length-take-le a ys k))
+    ∙ (λ i. sym (points-take a xs ys) i ++ (e ∙ (λ j. written P (points (tail-of xs a j) (tail-of ys a j))) ∙ ap (written P) (sym (points-drop a xs ys))) i)
+    ∙ ap (λ l. take a (points xs ys) ++ (P ++ l)) (drop-drop (length P) a (points xs ys))
 
 -- what is written behind what was written
-pub written-both : (to a b : List ℤ) (n : ℕ) → length a ≡ n → behind (written a to) n b ≡ written (a ++ b) to
+written-both : {A : Type 0} (to a b : List A) (n : ℕ) → length a ≡ n → behind (written a to) n b ≡ written (a ++ b) to
 written-both to a b n e =
     let rest = drop (length a) to in
     let front : take n (written a to) ≡ a = take-at a rest n e in
@@ -164,35 +157,56 @@ written-both to a b n e =
     (λ i. front i ++ (b ++ after i)) ∙ sym (append-assoc a b (drop (length (a ++ b)) to))
 
 -- points are written, then others behind them
-pub points-both : (to : List ℤ) (P Q : List Point) (n : ℕ) → length P ≡ n → (xs : List ℤ) → xs ≡ written (numbersOf P) to
-    → (ys : List ℤ) → ys ≡ written (numbersOf Q) (midOf (2 * n) (length xs - 2 * n) xs) → putMid (2 * n) (length xs - 2 * n) xs ys ≡ written (numbersOf (P ++ Q)) to
-points-both to P Q n e xs f ys g =
-    ap (putMid (2 * n) (length xs - 2 * n) xs) g
-    ∙ tail-written xs (2 * n) (numbersOf Q)
-    ∙ ap (λ l. behind l (2 * n) (numbersOf Q)) f
-    ∙ written-both to (numbersOf P) (numbersOf Q) (2 * n) (omega (arith, numbers-length P))
-    ∙ ap (λ l. written l to) (sym (numbers-append P Q))
+pub points-both : (to P Q : List Point) (n : ℕ) → length P ≡ n → (xs ys us vs : List ℤ) → n ≤ length xs → n ≤ length ys → points xs ys ≡ written P to
+    → points us vs ≡ written Q (points (midOf n (length xs - n) xs) (midOf n (length ys - n) ys))
+    → points (putMid n (length xs - n) xs us) (putMid n (length ys - n) ys vs) ≡ written (P ++ Q) to
+points-both to P Q n e xs ys us vs h k f g = tails-written xs ys us vs n Q h k g ∙ ap (λ l. behind l n Q) f ∙ written-both to P Q n e
 
--- points are written to the free tail of the store, and the number takes them
-pub added : (store : List ℤ) (runs : List ℕ) (e : ℕ) (P : List Point) (free : ℕ) → free ≡ total runs
-    → (ys : List ℤ) → ys ≡ written (numbersOf P) (midOf (2 * free) (length store - 2 * free) store)
-    → (runs′ : List ℕ) (m : ℕ) → m ≡ length P → runs′ ≡ entered runs e free m → Added store runs e P (putMid (2 * free) (length store - 2 * free) store ys) runs′
-added store runs e P free f ys g runs′ m h k = let twice : 2 * free ≡ total runs + total runs = omega arith in (
-  ap (putMid (2 * free) (length store - 2 * free) store) g ∙ tail-written store (2 * free) (numbersOf P) ∙ ap (λ t. behind store t (numbersOf P)) twice,
-  k ∙ (λ i. entered runs e (f i) (h i)),
+-- points are written to the free tails of the store, and the number takes them
+pub added : (sx sy : List ℤ) (runs : List ℕ) (e : ℕ) (P : List Point) (free : ℕ) → free ≡ total runs → free ≤ length sx → free ≤ length sy
+    → (us vs : List ℤ) → points us vs ≡ written P (points (midOf free (length sx - free) sx) (midOf free (length sy - free) sy))
+    → (runs′ : List ℕ) (m : ℕ) → m ≡ length P → runs′ ≡ entered runs e free m
+    → Added (points sx sy) runs e P (points (putMid free (length sx - free) sx us) (putMid free (length sy - free) sy vs)) runs′
+added sx sy runs e P free f h k us vs g runs′ m n o = (
+  tails-written sx sy us vs free P h k g ∙ ap (λ t. behind (points sx sy) t P) f,
+  o ∙ (λ i. entered runs e (f i) (n i)),
 )
 
 -- how long a run with a path behind it is
 pub one-length : (P : List Point) (i c : ℕ) (path : List ℤ) (k : ℕ) → length path ≡ k + k → length (run P i c ++ reverse (vertices path)) ≡ c + k
 one-length P i c path k e = length-append (run P i c) (reverse (vertices path)) ∙ (λ t. run-length P i c t + (length-reverse (vertices path) ∙ length-vertices path k e) t)
 
--- once round from the first vertex, a ring's own numbers are written
-pub copied : (xs to₀ to : List ℤ) (n : ℕ) → length xs ≡ n + n → to ≡ written (numbersOf (run (vertices xs) 0 n)) to₀ → to ≡ written xs to₀
-copied xs to₀ to n e f =
-    f ∙ ap (λ P. written (numbersOf P) to₀) (run-all (vertices xs) n (length-vertices xs n e)) ∙ ap (λ l. written l to₀) (numbers-vertices xs n e)
+-- ---- a ring as x, y, x, y, ..
+
+-- the numbers of the point at k
+number-x : (xs ys : List ℤ) (k : ℕ) → length xs ≡ length ys → k < length xs → getD (numbersOf (points xs ys)) (k + k) (pos 0) ≡ getD xs k (pos 0)
+unfolding numbersOf points
+number-x [] ys k e h = absurd (let f : ⊥ = omega arith in f)
+number-x (x ∷ xs) [] k e h = absurd (let f : ⊥ = omega arith in f)
+number-x (x ∷ xs) (y ∷ ys) zero e h = refl
+number-x (x ∷ xs) (y ∷ ys) (suc k) e h = ap (λ m. getD (x ∷ y ∷ numbersOf (points xs ys)) m (pos 0)) (let f : suc k + suc k ≡ suc (suc (k + k)) = omega arith in f) ∙ number-x xs ys k (omega arith) (omega arith)
+
+number-y : (xs ys : List ℤ) (k : ℕ) → length xs ≡ length ys → k < length xs → getD (numbersOf (points xs ys)) (k + k + 1) (pos 0) ≡ getD ys k (pos 0)
+unfolding numbersOf points
+number-y [] ys k e h = absurd (let f : ⊥ = omega arith in f)
+number-y (x ∷ xs) [] k e h = absurd (let f : ⊥ = omega arith in f)
+number-y (x ∷ xs) (y ∷ ys) zero e h = refl
+number-y (x ∷ xs) (y ∷ ys) (suc k) e h = ap (λ m. getD (x ∷ y ∷ numbersOf (points xs ys)) m (pos 0)) (let f : suc k + suc k + 1 ≡ suc (suc (k + k + 1)) = omega arith in f) ∙ number-y xs ys k (omega arith) (omega arith)
+
+-- the two numbers of a point are written
+pub pair-more : (xs ys to₀ to : List ℤ) (k : ℕ) → length xs ≡ length ys → k < length xs → length xs + length xs ≤ length to₀ → Writing (numbersOf (points xs ys)) to₀ to (k + k)
+    → Writing (numbersOf (points xs ys)) to₀ (set (set to (2 * k) (getD xs k (pos 0))) (2 * k + 1) (getD ys k (pos 0))) (k + 1 + (k + 1))
+pair-more xs ys to₀ to k e h room w =
+    let L = numbersOf (points xs ys) in
+    let all : length L ≡ length xs + length xs = numbers-length (points xs ys) ∙ (λ i. length-points xs ys e i + length-points xs ys e i) in
+    let twice : k + k ≡ 2 * k = omega arith in
+    let next : k + k + 1 + 1 ≡ k + 1 + (k + 1) = omega arith in
+    let first = writing-more (pos 0) L to₀ to (k + k) (getD xs k (pos 0)) (omega (arith, all)) (omega (arith, all)) (sym (number-x xs ys k e h)) w in
+    let second = writing-more (pos 0) L to₀ (set to (k + k) (getD xs k (pos 0))) (k + k + 1) (getD ys k (pos 0)) (omega (arith, all)) (omega (arith, all)) (sym (number-y xs ys k e h)) first in
+    transport (λ i. Writing L to₀ (set (set to (twice i) (getD xs k (pos 0))) (twice i + 1) (getD ys k (pos 0))) (next i)) second
 
 -- a ring that was written is read back
-pub read-back : (store : List ℤ) (f n : ℕ) → f + n + (f + n) ≤ length store → (to₀ to : List ℤ) → to ≡ written (part store f n) to₀ → (m : ℕ) → m ≡ n + n → take (m - 0) to ≡ part store f n
-read-back store f n h to₀ to e m k =
-    let long = part-length store f n h in
-    ap (take (m - 0)) e ∙ take-at (part store f n) (drop (length (part store f n)) to₀) (m - 0) (omega (arith, long))
+pub read-back : (P : List Point) (n : ℕ) → length P ≡ n → (to₀ to : List ℤ) → to ≡ written (numbersOf P) to₀ → (m : ℕ) → m ≡ n + n → vertices (take (m - 0) to) ≡ P
+read-back P n e to₀ to f m k =
+    let all : length (numbersOf P) ≡ m - 0 = numbers-length P ∙ omega arith in
+    ap (λ l. vertices (take (m - 0) l)) f ∙ ap vertices (take-at (numbersOf P) (drop (length (numbersOf P)) to₀) (m - 0) all) ∙ vertices-numbers P

@@ -1,4 +1,4 @@
--- Rings as the store holds them, and what the routines that write them leave. No call's promise cites it. Assumes nothing.
+-- A ring's numbers, and what the routines that write rings leave in the points of the store. No call's promise cites it. Assumes nothing.
 use Prim.Native.Nat.{ℕ, _+_, _-_, _≤_, _<_}
 use mathlib.Core.Path.{_≡_}
 use mathlib.Core.List.{List, [], _∷_, _++_}
@@ -16,7 +16,7 @@ numbersOf [] = []
 numbersOf (p ∷ P) = p .x ∷ p .y ∷ numbersOf P
 
 -- what stands from `from` on, up to `end`, moved down to `to`; what comes after it is as it was
-abbrev pub closed : List ℤ → ℕ → ℕ → ℕ → List ℤ
+abbrev pub closed : {A : Type 0} → List A → ℕ → ℕ → ℕ → List A
 closed xs to from end = take to xs ++ take (end - from) (drop from xs) ++ drop (to + (end - from)) xs
 
 -- the first places from `end` on are n lower; nothing else is changed
@@ -32,8 +32,8 @@ entered runs e place m = set (set runs (1 + e) place) (65 + e) m
 
 -- what is left of the store and the runs once number d has left: its size is 0, the places after its run are lower by its size, and
 -- the vertices before its run stand where they stood, those after it from its first place on
-pub record Left (store : List ℤ) (runs : List ℕ) (d : ℕ) (store′ : List ℤ) (runs′ : List ℕ) : Type 0 where
-  pub long-store : length store′ ≡ 4096
+pub record Left (store : List Point) (runs : List ℕ) (d : ℕ) (store′ : List Point) (runs′ : List ℕ) : Type 0 where
+  pub long-store : length store′ ≡ 2048
   pub long-runs : length runs′ ≡ 129
   pub outline-same : outlineSize runs′ ≡ outlineSize runs
   pub gone : size runs′ d ≡ 0
@@ -42,10 +42,10 @@ pub record Left (store : List ℤ) (runs : List ℕ) (d : ℕ) (store′ : List 
   pub lower : part store′ 0 (firstPlace runs d) ≡ part store 0 (firstPlace runs d)
   pub moved : part store′ (firstPlace runs d) (total runs - (firstPlace runs d + size runs d)) ≡ part store (firstPlace runs d + size runs d) (total runs - (firstPlace runs d + size runs d))
 
--- the numbers ys stand behind the first a; what comes after them is as it was
-abbrev pub behind : List ℤ → ℕ → List ℤ → List ℤ
+-- ys stand behind the first a; what comes after them is as it was
+abbrev pub behind : {A : Type 0} → List A → ℕ → List A → List A
 behind xs a ys = take a xs ++ (ys ++ drop (a + length ys) xs)
 
 -- number e takes the ring P, written from the first free place of the store on
-abbrev pub Added : List ℤ → List ℕ → ℕ → List Point → List ℤ → List ℕ → Type 0
-Added store runs e P store′ runs′ = (store′ ≡ behind store (total runs + total runs) (numbersOf P)) × (runs′ ≡ entered runs e (total runs) (length P))
+abbrev pub Added : List Point → List ℕ → ℕ → List Point → List Point → List ℕ → Type 0
+Added store runs e P store′ runs′ = (store′ ≡ behind store (total runs) P) × (runs′ ≡ entered runs e (total runs) (length P))

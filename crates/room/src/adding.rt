@@ -7,6 +7,7 @@ ghost use mathlib.Core.List.{_++_, reverse};
 ghost use Prim.Native.Nat.{_+_, _<_, _≤_};
 ghost use lib.ListN.{length};
 ghost use Rattle.ring.specs.Grid.{vertices};
+ghost use Rattle.ring.specs.Columns.{points};
 ghost use Rattle.districts.specs.WellFormed.{total as totalOf};
 ghost use Rattle.room.specs.Runs.{run};
 ghost use Rattle.room.specs.Writing.{entered, Added};
@@ -24,7 +25,8 @@ fn enter(runs: &mut [u32], e: usize, place: usize, m: usize)
 
 // Number e takes a ring of a run and then a path backwards, written behind all rings.
 pub fn add_run_and_path(
-    store: &mut [i32],
+    sx: &mut [i32],
+    sy: &mut [i32],
     runs: &mut [u32],
     e: usize,
     ring: &[i32],
@@ -34,22 +36,22 @@ pub fn add_run_and_path(
     path: &[i32],
     k: usize,
 )
-    requires { ⌜ (length (now store) ≡ 4096) × (length (now runs) ≡ 129) × (e < 64) ⌝ }
+    requires { ⌜ (length (now sx) ≡ 2048) × (length (now sy) ≡ 2048) × (length (now runs) ≡ 129) × (e < 64) ⌝ }
     requires { ⌜ length (now ring) ≡ n + n ⌝ }
     requires { ⌜ (i ≤ n) × (c ≤ n) ⌝ }
     requires { ⌜ length (now path) ≡ k + k ⌝ }
     requires { ⌜ totalOf (now runs) + (c + k) ≤ 2048 ⌝ }
-    ensures { λ _. ⌜ Added (now (store .entry)) (now (runs .entry)) e (run (vertices (now (ring .entry))) i c ++ reverse (vertices (now (path .entry)))) (now (store .exit)) (now (runs .exit)) ⌝ }
+    ensures { λ _. ⌜ Added (points (now (sx .entry)) (now (sy .entry))) (now (runs .entry)) e (run (vertices (now (ring .entry))) i c ++ reverse (vertices (now (path .entry)))) (points (now (sx .exit)) (now (sy .exit))) (now (runs .exit)) ⌝ }
 {
     let free = districts::total(runs);
-    let from = 2 * free;
-    pieces::write_run_and_path(&mut store[from..], ring, n, i, c, path, k);
+    pieces::write_run_and_path(&mut sx[free..], &mut sy[free..], ring, n, i, c, path, k);
     enter(runs, e, free, c + k);
 }
 
 // Number e takes a ring of two runs, written behind all rings.
 pub fn add_two_runs(
-    store: &mut [i32],
+    sx: &mut [i32],
+    sy: &mut [i32],
     runs: &mut [u32],
     e: usize,
     ring: &[i32],
@@ -61,16 +63,26 @@ pub fn add_two_runs(
     j: usize,
     k: usize,
 )
-    requires { ⌜ (length (now store) ≡ 4096) × (length (now runs) ≡ 129) × (e < 64) ⌝ }
+    requires { ⌜ (length (now sx) ≡ 2048) × (length (now sy) ≡ 2048) × (length (now runs) ≡ 129) × (e < 64) ⌝ }
     requires { ⌜ length (now ring) ≡ n + n ⌝ }
     requires { ⌜ (i ≤ n) × (c ≤ n) ⌝ }
     requires { ⌜ length (now other) ≡ m + m ⌝ }
     requires { ⌜ (j ≤ m) × (k ≤ m) ⌝ }
     requires { ⌜ totalOf (now runs) + (c + k) ≤ 2048 ⌝ }
-    ensures { λ _. ⌜ Added (now (store .entry)) (now (runs .entry)) e (run (vertices (now (ring .entry))) i c ++ run (vertices (now (other .entry))) j k) (now (store .exit)) (now (runs .exit)) ⌝ }
+    ensures { λ _. ⌜ Added (points (now (sx .entry)) (now (sy .entry))) (now (runs .entry)) e (run (vertices (now (ring .entry))) i c ++ run (vertices (now (other .entry))) j k) (points (now (sx .exit)) (now (sy .exit))) (now (runs .exit)) ⌝ }
 {
     let free = districts::total(runs);
-    let from = 2 * free;
-    pieces::write_two_runs(&mut store[from..], ring, n, i, c, other, m, j, k);
+    pieces::write_two_runs(
+        &mut sx[free..],
+        &mut sy[free..],
+        ring,
+        n,
+        i,
+        c,
+        other,
+        m,
+        j,
+        k,
+    );
     enter(runs, e, free, c + k);
 }

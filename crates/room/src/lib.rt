@@ -8,4 +8,5 @@ pub use adding::add_run_and_path;
 pub use adding::add_two_runs;
 pub use pieces::around;
 pub use pieces::copy_ring;
+pub use pieces::write_run;
 pub use removing::remove;

@@ -1,4 +1,4 @@
-// The run of a number leaves the store, and the gap is closed.
+// The run of a number leaves the store, and the gap is closed in both columns.
 use districts::FIRST_PLACES;
 use districts::SIZES;
 ghost use mathlib.Core.Path.{_≡_};
@@ -6,21 +6,22 @@ ghost use Prim.Native.Nat.{_+_, _-_, _<_, _≤_};
 ghost use lib.Dec.{leb};
 ghost use lib.ListN.{length};
 ghost use Rattle.ring.specs.Choices.{pick};
+ghost use Rattle.ring.specs.Columns.{points};
 ghost use Rattle.room.specs.Writing.{closed, Lowered, Left};
 ghost use Rattle.districts.specs.Lists.{firstPlace, size as sizeOf};
 ghost use Rattle.districts.specs.WellFormed.{total as totalOf};
 
-// Moves what stands from `from` up to `end` down to `to`. Going forward, no number is overwritten before it was moved.
-fn close(store: &mut [i32], to: usize, from: usize, end: usize)
+// Moves what stands in a column from `from` up to `end` down to `to`. Going forward, no number is overwritten before it was moved.
+fn close(column: &mut [i32], to: usize, from: usize, end: usize)
     requires { ⌜ to ≤ from ⌝ }
     requires { ⌜ from ≤ end ⌝ }
-    requires { ⌜ end ≤ length (now store) ⌝ }
-    ensures { λ _. ⌜ now (store .exit) ≡ closed (now (store .entry)) to from end ⌝ }
+    requires { ⌜ end ≤ length (now column) ⌝ }
+    ensures { λ _. ⌜ now (column .exit) ≡ closed (now (column .entry)) to from end ⌝ }
 {
     let many = end - from;
     let mut i = 0;
     while i < many {
-        store[to + i] = store[from + i];
+        column[to + i] = column[from + i];
         i += 1;
     }
 }
@@ -49,18 +50,19 @@ fn lower(runs: &mut [u32], end: usize, n: usize)
 }
 
 // The run of number d leaves: what stands after it moves down, and the number is unused.
-pub fn remove(store: &mut [i32], runs: &mut [u32], d: usize)
-    requires { ⌜ length (now store) ≡ 4096 ⌝ }
+pub fn remove(sx: &mut [i32], sy: &mut [i32], runs: &mut [u32], d: usize)
+    requires { ⌜ (length (now sx) ≡ 2048) × (length (now sy) ≡ 2048) ⌝ }
     requires { ⌜ length (now runs) ≡ 129 ⌝ }
     requires { ⌜ d < 64 ⌝ }
     requires { ⌜ (firstPlace (now runs) d + sizeOf (now runs) d ≤ totalOf (now runs)) × (totalOf (now runs) ≤ 2048) ⌝ }
-    ensures { λ _. ⌜ Left (now (store .entry)) (now (runs .entry)) d (now (store .exit)) (now (runs .exit)) ⌝ }
+    ensures { λ _. ⌜ Left (points (now (sx .entry)) (now (sy .entry))) (now (runs .entry)) d (points (now (sx .exit)) (now (sy .exit))) (now (runs .exit)) ⌝ }
 {
     let at = districts::first_place(runs, d);
     let n = districts::size(runs, d);
     let all = districts::total(runs);
     let end = at + n;
-    close(store, 2 * at, 2 * end, 2 * all);
+    close(sx, at, end, all);
+    close(sy, at, end, all);
     lower(runs, end, n);
     runs[SIZES + d] = 0;
 }

@@ -5,6 +5,7 @@ use crate::calling;
 use records::Front;
 use tally::Tally;
 use wording::Kind;
+ghost use Rattle.districts.specs.Lent.{lent};
 ghost use Rattle.records.specs.Layout.{front};
 ghost use Rattle.stream.specs.Advancing.{AdvancedBy};
 
@@ -12,12 +13,14 @@ ghost use Rattle.stream.specs.Advancing.{AdvancedBy};
 pub fn advance(
     bytes: &[u8],
     list: &mut [i32; 4096],
-    outline: &mut [i32],
-    store: &mut [i32],
+    ox: &mut [i32],
+    oy: &mut [i32],
+    sx: &mut [i32],
+    sy: &mut [i32],
     runs: &mut [u32],
     tally: Tally,
 ) -> Advanced
-    ensures { λ r. ⌜ AdvancedBy r (front (now (bytes .entry))) tally (now (list .entry)) (now (list .exit)) (record { outline = now (outline .entry); store = now (store .entry); runs = now (runs .entry) }) (record { outline = now (outline .exit); store = now (store .exit); runs = now (runs .exit) }) ⌝ }
+    ensures { λ r. ⌜ AdvancedBy r (front (now (bytes .entry))) tally (now (list .entry)) (now (list .exit)) (lent (now (ox .entry)) (now (oy .entry)) (now (sx .entry)) (now (sy .entry)) (now (runs .entry))) (lent (now (ox .exit)) (now (oy .exit)) (now (sx .exit)) (now (sy .exit)) (now (runs .exit))) ⌝ }
 {
     let decoded = records::decode(bytes, list);
     let front = decoded.front;
@@ -26,7 +29,7 @@ pub fn advance(
         Front::Outline(n) => Advanced {
             told: Told::Answered(
                 Kind::Outline,
-                calling::outline(n, list, outline, store, runs),
+                calling::outline(n, list, ox, oy, sx, sy, runs),
             ),
             taken,
             tally,
@@ -34,7 +37,7 @@ pub fn advance(
         Front::Split(d, i, j, k) => Advanced {
             told: Told::Answered(
                 Kind::Split,
-                calling::split(d, i, j, k, list, outline, store, runs),
+                calling::split(d, i, j, k, list, ox, oy, sx, sy, runs),
             ),
             taken,
             tally,
@@ -42,12 +45,12 @@ pub fn advance(
         Front::Merge(kept, a, gone, b, k) => Advanced {
             told: Told::Answered(
                 Kind::Merge,
-                calling::merge(kept, a, gone, b, k, outline, store, runs),
+                calling::merge(kept, a, gone, b, k, ox, oy, sx, sy, runs),
             ),
             taken,
             tally,
         },
-        Front::Report(s) => calling::report(s, taken, outline, store, runs, tally),
+        Front::Report(s) => calling::report(s, taken, ox, oy, sx, sy, runs, tally),
         Front::More => Advanced {
             told: Told::More,
             taken,

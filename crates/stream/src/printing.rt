@@ -9,7 +9,7 @@ ghost use mathlib.Core.Path.{_≡_};
 ghost use mathlib.Core.Bool.{true, false};
 ghost use Prim.Native.Nat.{_+_, _<_};
 ghost use lib.ListN.{length};
-ghost use Rattle.districts.specs.Lent.{formed};
+ghost use Rattle.districts.specs.Lent.{lent, formed};
 ghost use Rattle.stream.specs.Desks.{deskOf};
 ghost use Rattle.stream.specs.Printing.{Printed, numbers, Ready, TurnedBy};
 
@@ -30,21 +30,23 @@ fn ended(p: Page, stop: Stop) -> Page
 fn print_record(
     bytes: &[u8],
     coordinates: &mut [i32; 4096],
-    outline: &mut [i32],
-    store: &mut [i32],
+    ox: &mut [i32],
+    oy: &mut [i32],
+    sx: &mut [i32],
+    sy: &mut [i32],
     runs: &mut [u32],
     to: &mut [u8],
     p: Page,
 ) -> Page
-    requires { ⌜ Ready (now bytes) p (record { outline = now outline; store = now store; runs = now runs }) (now to) ⌝ }
-    ensures { λ q. ⌜ TurnedBy (now (bytes .entry)) p (record { outline = now (outline .entry); store = now (store .entry); runs = now (runs .entry) }) (now (coordinates .entry)) (now (to .entry)) q (record { outline = now (outline .exit); store = now (store .exit); runs = now (runs .exit) }) (now (coordinates .exit)) (now (to .exit)) ⌝ }
+    requires { ⌜ Ready (now bytes) p (lent (now ox) (now oy) (now sx) (now sy) (now runs)) (now to) ⌝ }
+    ensures { λ q. ⌜ TurnedBy (now (bytes .entry)) p (lent (now (ox .entry)) (now (oy .entry)) (now (sx .entry)) (now (sy .entry)) (now (runs .entry))) (now (coordinates .entry)) (now (to .entry)) q (lent (now (ox .exit)) (now (oy .exit)) (now (sx .exit)) (now (sy .exit)) (now (runs .exit))) (now (coordinates .exit)) (now (to .exit)) ⌝ }
 {
     let at = p.at;
     let filled = p.filled;
     if to.len() - filled < wording::ROOM {
         return ended(p, Stop::Full);
     }
-    let r = advancing::advance(&bytes[at..], coordinates, outline, store, runs, p.tally);
+    let r = advancing::advance(&bytes[at..], coordinates, ox, oy, sx, sy, runs, p.tally);
     let told = r.told;
     let tally = r.tally;
     match told {
@@ -64,16 +66,18 @@ fn print_record(
 pub fn print(
     bytes: &[u8],
     coordinates: &mut [i32; 4096],
-    outline: &mut [i32],
-    store: &mut [i32],
+    ox: &mut [i32],
+    oy: &mut [i32],
+    sx: &mut [i32],
+    sy: &mut [i32],
     runs: &mut [u32],
     to: &mut [u8],
     tally: Tally,
     number: usize,
 ) -> Page
-    requires { ⌜ formed (record { outline = now outline; store = now store; runs = now runs }) ≡ true ⌝ }
+    requires { ⌜ formed (lent (now ox) (now oy) (now sx) (now sy) (now runs)) ≡ true ⌝ }
     requires { ⌜ number + length (now bytes) < numbers ⌝ }
-    ensures { λ r. ⌜ Printed (now (bytes .entry)) (deskOf (record { outline = now (outline .entry); store = now (store .entry); runs = now (runs .entry) }) tally) number (now (coordinates .entry)) (now (to .entry)) r (record { outline = now (outline .exit); store = now (store .exit); runs = now (runs .exit) }) (now (coordinates .exit)) (now (to .exit)) × (r .going ≡ false) ⌝ }
+    ensures { λ r. ⌜ Printed (now (bytes .entry)) (deskOf (lent (now (ox .entry)) (now (oy .entry)) (now (sx .entry)) (now (sy .entry)) (now (runs .entry))) tally) number (now (coordinates .entry)) (now (to .entry)) r (lent (now (ox .exit)) (now (oy .exit)) (now (sx .exit)) (now (sy .exit)) (now (runs .exit))) (now (coordinates .exit)) (now (to .exit)) × (r .going ≡ false) ⌝ }
 {
     let mut p = Page {
         at: 0,
@@ -84,7 +88,7 @@ pub fn print(
         stop: Stop::More,
     };
     while p.going {
-        p = print_record(bytes, coordinates, outline, store, runs, to, p);
+        p = print_record(bytes, coordinates, ox, oy, sx, sy, runs, to, p);
     }
     p
 }

@@ -1,4 +1,4 @@
-// One question to both. The library's register stands in `outline`, `store` and `runs`, the other in `rows`.
+// One question to both. The library's register stands in `ox`, `oy`, `sx`, `sy` and `runs`, the other in `rows`.
 use crate::answer;
 use crate::answer::Answer;
 use crate::answer::Both;
@@ -42,18 +42,20 @@ fn position(sent: Sent) -> Position {
 }
 
 fn by_library(
-    outline: &mut [i32],
-    store: &mut [i32],
+    ox: &mut [i32],
+    oy: &mut [i32],
+    sx: &mut [i32],
+    sy: &mut [i32],
     runs: &mut [u32],
     edit: Edit,
     points: &[i32],
 ) -> Answer {
     match edit {
-        Edit::Found => answer::founded(register::found(outline, store, runs, points)),
+        Edit::Found => answer::founded(register::found(ox, oy, sx, sy, runs, points)),
         Edit::Split { d, i, j } => {
             answer::changed(
                 answer::SPLIT,
-                changes::split(outline, store, runs, d, i, j, points),
+                changes::split(ox, oy, sx, sy, runs, d, i, j, points),
             )
         }
         Edit::Merge {
@@ -65,11 +67,11 @@ fn by_library(
         } => {
             answer::changed(
                 answer::MERGED,
-                changes::merge(outline, store, runs, kept, a, gone, b, k),
+                changes::merge(ox, oy, sx, sy, runs, kept, a, gone, b, k),
             )
         }
         Edit::Report { number, sent } => {
-            answer::assigned(register::assign_at(outline, store, runs, number, position(sent)))
+            answer::assigned(register::assign_at(ox, oy, sx, sy, runs, number, position(sent)))
         }
     }
 }
@@ -97,8 +99,10 @@ fn by_rows(rows: &mut [i32], edit: Edit, points: &[i32]) -> Answer
 
 // One call on both registers, with the points that it takes, and a comparison of all that they hold then.
 pub fn perform(
-    outline: &mut [i32],
-    store: &mut [i32],
+    ox: &mut [i32],
+    oy: &mut [i32],
+    sx: &mut [i32],
+    sy: &mut [i32],
     runs: &mut [u32],
     rows: &mut [i32],
     edit: Edit,
@@ -108,8 +112,8 @@ pub fn perform(
     requires { ⌜ length (now rows) ≡ allRows ⌝ }
 {
     Both {
-        library: by_library(outline, store, runs, edit, points),
+        library: by_library(ox, oy, sx, sy, runs, edit, points),
         second: by_rows(rows, edit, points),
-        rings: compare::agree(outline, store, runs, rows),
+        rings: compare::agree(ox, oy, sx, sy, runs, rows),
     }
 }

@@ -1,38 +1,41 @@
 // Whether both registers hold the same: every district's ring, vertex by vertex, the unused numbers, and the outline.
 ghost use mathlib.Core.Path.{_≡_};
-ghost use Prim.Native.Nat.{_+_, _<_, _≤_};
+ghost use Prim.Native.Nat.{_<_, _≤_};
 ghost use lib.ListN.{length};
-ghost use Rattle.test_rows.specs.Shape.{allRows};
+ghost use Rattle.test_rows.specs.Shape.{allRows, mostVertices};
 
-// Whether the m numbers of a list from one on are the first of row d.
-fn numbers_agree(list: &[i32], from: usize, m: usize, rows: &[i32], d: usize) -> bool
+// Whether the vertices in two columns are the first of row d.
+fn vertices_agree(xs: &[i32], ys: &[i32], rows: &[i32], d: usize) -> bool
     requires { ⌜ length (now rows) ≡ allRows ⌝ }
-    requires { ⌜ from + m ≤ length (now list) ⌝ }
+    requires { ⌜ (length (now xs) ≡ length (now ys)) × (length (now xs) ≤ mostVertices) ⌝ }
 {
     let mut good = true;
     let mut k = 0;
-    while k < m {
-        good = good & (list[from + k] == test_rows::number_at(rows, d, k));
+    while k < xs.len() {
+        let x = test_rows::number_at(rows, d, 2 * k);
+        let y = test_rows::number_at(rows, d, 2 * k + 1);
+        good = good & (xs[k] == x) & (ys[k] == y);
         k += 1;
     }
     good
 }
 
-// Whether a ring of n vertices that stands in a list from a place on is that of row d.
-fn rings_agree(list: &[i32], place: usize, n: usize, rows: &[i32], d: usize) -> bool
+// Whether a ring of n vertices that stands in two columns from a place on is that of row d.
+fn rings_agree(xs: &[i32], ys: &[i32], place: usize, n: usize, rows: &[i32], d: usize) -> bool
     requires { ⌜ length (now rows) ≡ allRows ⌝ }
     requires { ⌜ (place < 4294967296) × (n < 4294967296) ⌝ }
 {
     if n != test_rows::size(rows, d) {
         return false;
     }
-    if list.len() < 2 * place + 2 * n {
+    let end = place + n;
+    if test_rows::least(xs.len(), ys.len()) < end {
         return false;
     }
-    numbers_agree(list, 2 * place, 2 * n, rows, d)
+    vertices_agree(&xs[place..end], &ys[place..end], rows, d)
 }
 
-fn all_rings_agree(store: &[i32], runs: &[u32], rows: &[i32]) -> bool
+fn all_rings_agree(sx: &[i32], sy: &[i32], runs: &[u32], rows: &[i32]) -> bool
     requires { ⌜ length (now runs) ≡ 129 ⌝ }
     requires { ⌜ length (now rows) ≡ allRows ⌝ }
 {
@@ -40,19 +43,19 @@ fn all_rings_agree(store: &[i32], runs: &[u32], rows: &[i32]) -> bool
     let mut d = 0;
     while d < test_rows::NUMBERS {
         let n = districts::size(runs, d);
-        good = good & rings_agree(store, districts::first_place(runs, d), n, rows, d);
+        good = good & rings_agree(sx, sy, districts::first_place(runs, d), n, rows, d);
         d += 1;
     }
     good
 }
 
 // Whether the library's register is well-formed and both hold the same.
-pub fn agree(outline: &[i32], store: &[i32], runs: &[u32], rows: &[i32]) -> bool
+pub fn agree(ox: &[i32], oy: &[i32], sx: &[i32], sy: &[i32], runs: &[u32], rows: &[i32]) -> bool
     requires { ⌜ length (now runs) ≡ 129 ⌝ }
     requires { ⌜ length (now rows) ≡ allRows ⌝ }
 {
     let n = districts::outline_size(runs);
-    districts::well_formed(outline, store, runs)
-        & rings_agree(outline, 0, n, rows, test_rows::OUTLINE)
-        & all_rings_agree(store, runs, rows)
+    districts::well_formed(ox, oy, sx, sy, runs)
+        & rings_agree(ox, oy, 0, n, rows, test_rows::OUTLINE)
+        & all_rings_agree(sx, sy, runs, rows)
 }

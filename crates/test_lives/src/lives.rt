@@ -37,8 +37,10 @@ fn kind(what: Kind, seed: &mut usize) -> Kind {
 
 // Asks where a report at the case's point belongs.
 fn report(
-    outline: &mut [i32],
-    store: &mut [i32],
+    ox: &mut [i32],
+    oy: &mut [i32],
+    sx: &mut [i32],
+    sy: &mut [i32],
     runs: &mut [u32],
     rows: &mut [i32],
     case: Case,
@@ -51,8 +53,10 @@ fn report(
     let number = draw(seed, REPORT_NUMBERS) as u32;
     let sent = test_cases::position(case.x, case.y, seed);
     score.with(perform(
-        outline,
-        store,
+        ox,
+        oy,
+        sx,
+        sy,
         runs,
         rows,
         Edit::Report { number, sent },
@@ -61,8 +65,10 @@ fn report(
 }
 
 fn change(
-    outline: &mut [i32],
-    store: &mut [i32],
+    ox: &mut [i32],
+    oy: &mut [i32],
+    sx: &mut [i32],
+    sy: &mut [i32],
     runs: &mut [u32],
     rows: &mut [i32],
     list: &[i32],
@@ -75,12 +81,14 @@ fn change(
 {
     let m = asked.m;
     let edit = asked.edit;
-    score.with(perform(outline, store, runs, rows, edit, &list[0..m]))
+    score.with(perform(ox, oy, sx, sy, runs, rows, edit, &list[0..m]))
 }
 
 fn step(
-    outline: &mut [i32],
-    store: &mut [i32],
+    ox: &mut [i32],
+    oy: &mut [i32],
+    sx: &mut [i32],
+    sy: &mut [i32],
     runs: &mut [u32],
     rows: &mut [i32],
     space: &mut [i32],
@@ -96,8 +104,8 @@ fn step(
     let what = life.what;
     let case = test_cases::make(kind(what, seed), space, seed);
     let asked = test_cases::next(rows, case.m, life.long, splits, seed);
-    let changed = change(outline, store, runs, rows, space, asked, score);
-    report(outline, store, runs, rows, case, seed, changed)
+    let changed = change(ox, oy, sx, sy, runs, rows, space, asked, score);
+    report(ox, oy, sx, sy, runs, rows, case, seed, changed)
 }
 
 // In the first third of a life districts become more, in the second fewer, and in the last more again.
@@ -110,8 +118,10 @@ fn splits_at(t: usize, times: usize) -> usize {
 }
 
 fn steps(
-    outline: &mut [i32],
-    store: &mut [i32],
+    ox: &mut [i32],
+    oy: &mut [i32],
+    sx: &mut [i32],
+    sy: &mut [i32],
     runs: &mut [u32],
     rows: &mut [i32],
     space: &mut [i32],
@@ -128,7 +138,7 @@ fn steps(
     let mut t = 0;
     while t < times {
         let splits = splits_at(t, times);
-        score = step(outline, store, runs, rows, space, life, splits, seed, score);
+        score = step(ox, oy, sx, sy, runs, rows, space, life, splits, seed, score);
         t += 1;
     }
     score
@@ -138,13 +148,17 @@ fn lived(rows: &mut [i32], space: &mut [i32], life: Life, seed: &mut usize, scor
     requires { ⌜ length (now rows) ≡ allRows ⌝ }
     requires { ⌜ length (now space) ≡ room ⌝ }
 {
-    let mut outline = [0i32; districts::OUTLINE_LENGTH];
-    let mut store = [0i32; districts::STORE_LENGTH];
+    let mut ox = [0i32; districts::COLUMN_LENGTH];
+    let mut oy = [0i32; districts::COLUMN_LENGTH];
+    let mut sx = [0i32; districts::COLUMN_LENGTH];
+    let mut sy = [0i32; districts::COLUMN_LENGTH];
     let mut runs = [0u32; districts::RUNS_LENGTH];
     test_rows::empty(rows);
     steps(
-        &mut outline,
-        &mut store,
+        &mut ox,
+        &mut oy,
+        &mut sx,
+        &mut sy,
         &mut runs,
         rows,
         space,

@@ -167,8 +167,10 @@ fn points_of(edit: Edit, points: &[i32]) -> &[i32] {
 }
 
 fn perform_all(
-    outline: &mut [i32],
-    store: &mut [i32],
+    ox: &mut [i32],
+    oy: &mut [i32],
+    sx: &mut [i32],
+    sy: &mut [i32],
     runs: &mut [u32],
     rows: &mut [i32],
     name: &[u8],
@@ -184,7 +186,7 @@ fn perform_all(
     while k < end {
         let edit = call(k);
         let own = points_of(edit, points);
-        let both = test_lives::perform(outline, store, runs, rows, edit, own);
+        let both = test_lives::perform(ox, oy, sx, sy, runs, rows, edit, own);
         print(name, edit, both);
         score = score.with(both);
         k += 1;
@@ -194,13 +196,17 @@ fn perform_all(
 
 // The calls from one up to another, for an outline of four vertices and the path behind them.
 fn listed(name: &[u8], first: usize, end: usize, points: &[i32]) -> Score {
-    let mut outline = [0i32; districts::OUTLINE_LENGTH];
-    let mut store = [0i32; districts::STORE_LENGTH];
+    let mut ox = [0i32; districts::COLUMN_LENGTH];
+    let mut oy = [0i32; districts::COLUMN_LENGTH];
+    let mut sx = [0i32; districts::COLUMN_LENGTH];
+    let mut sy = [0i32; districts::COLUMN_LENGTH];
     let mut runs = [0u32; districts::RUNS_LENGTH];
     let mut rows = [0i32; test_rows::ROWS_LENGTH];
     perform_all(
-        &mut outline,
-        &mut store,
+        &mut ox,
+        &mut oy,
+        &mut sx,
+        &mut sy,
         &mut runs,
         &mut rows,
         name,

@@ -9,7 +9,7 @@ use Rattle.ring.specs.Columns.{points}
 use Rattle.ring.specs.Walk.{headOf, metAt}
 use Rattle.ring.proofs.Settled.{part-whole, clear-off, settled}
 use Rattle.columns.specs.Walk.{Ready}
-use Rattle.columns.proofs.Spots.{length-points}
+use Rattle.ring.proofs.Columns.{length-points}
 use Rattle.columns.proofs.locate_on.Statement.{statement}
 use Rattle.columns.proofs.locate_on.Tie as tie
 

@@ -6,7 +6,7 @@ use mir.Syntax.{w32}
 use mir.Val.{SFits}
 use mir.Facts.{toZ-ofZ}
 use borrow.Author.Needs.{needs}
-use Rattle.columns.proofs.Spots.{point-at}
+use Rattle.ring.proofs.Columns.{point-at}
 use Rattle.columns.proofs.vertex.Statement.{statement}
 use Rattle.columns.proofs.vertex.Tie as tie
 

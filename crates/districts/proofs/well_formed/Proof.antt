@@ -1,17 +1,16 @@
 -- `districts::well_formed` asks the parts of the definition in its order and stops at the first that fails. Assumes nothing.
 use Prim.Native.Nat.{_≤_}
 use native.Mathlib.Omega.{arith}
-use mathlib.Core.Path.{_≡_, sym, _∙_}
-use mathlib.Core.Bool.{true, not, _&&_}
-use lib.Dec.{eqb}
+use mathlib.Core.Path.{_≡_, sym, ap, _∙_}
+use mathlib.Core.Bool.{true, _&&_}
 use lib.ListN.{length}
 use borrow.Author.Needs.{needs}
-use borrow.Author.Tests.{eqb-true, not-true, not-false}
-use Rattle.ring.specs.Grid.{someBeyond}
-use Rattle.districts.specs.Lists.{part, outlineSize}
-use Rattle.districts.specs.WellFormed.{shaped, total, counted, packed, wellFormed}
-use Rattle.districts.proofs.Sound.{size-most, outline-sized, total-most}
-use Rattle.districts.proofs.Tests.{stops, goes-on, both-left, both-right}
+use borrow.Author.Tests.{not-true, not-false}
+use Rattle.districts.specs.Lists.{outlineSize}
+use Rattle.districts.specs.WellFormed.{shaped, total, counted, within, wellFormed}
+use Rattle.districts.specs.Lent.{Lists, lent}
+use Rattle.districts.proofs.Sound.{size-most, outline-sized, total-most, shape-told}
+use Rattle.districts.proofs.Tests.{stops, goes-on}
 use Rattle.districts.proofs.well_formed.Statement.{statement}
 use Rattle.districts.proofs.well_formed.Tie as tie
 
@@ -23,11 +22,20 @@ unfolding wellFormed
 returns c = sym (stops (sym (c .before .shaped .ensures) ∙ not-true _ (c .if1 .taken)) _)
 
 -- what each test that passed tells
-right-shape : (c : tie.Else1) → shaped (c .before .before .before .args .outline .now) (c .before .before .before .args .store .now) (c .before .before .before .args .runs .now) ≡ true
+abbrev given : tie.Start → Lists
+given s = lent (s .args .ox .now) (s .args .oy .now) (s .args .sx .now) (s .args .sy .now) (s .args .runs .now)
+
+abbrev start : tie.Else1 → tie.Start
+start c = c .before .before .before
+
+right-shape : (c : tie.Else1) → let l = given (start c) in shaped (l .ox) (l .oy) (l .sx) (l .sy) (l .runs) ≡ true
 right-shape c = sym (c .before .shaped .ensures) ∙ not-false _ (c .if1 .left)
 
-runs-length : (c : tie.Else1) → length (c .before .before .before .args .runs .now) ≡ 129
-runs-length c = eqb-true _ 129 (both-right (eqb (length (c .before .before .before .args .store .now)) 4096) _ (both-right (eqb (length (c .before .before .before .args .outline .now)) 4096) _ (right-shape c)))
+lengths : (c : tie.Else1) → let l = given (start c) in ((length (l .ox) ≡ 2048) × (length (l .oy) ≡ 2048)) × ((length (l .sx) ≡ 2048) × (length (l .sy) ≡ 2048)) × (length (l .runs) ≡ 129)
+lengths c = let l = given (start c) in shape-told (l .ox) (l .oy) (l .sx) (l .sy) (l .runs) (right-shape c)
+
+runs-length : (c : tie.Else1) → length (start c .args .runs .now) ≡ 129
+runs-length c = lengths c .2
 
 total-requires : tie.Need-total-requires
 total-requires c κs = runs-length c
@@ -62,27 +70,28 @@ on-grid-requires : tie.Need-on-grid-requires
 on-grid-requires c κs =
     let second = c .before .before .before in
     let first = second .before .before .before in
-    let a = first .before .before .before .args in
-    let lengths = right-shape first in
-    let outline : length (a .outline .now) ≡ 4096 = eqb-true _ 4096 (both-left (eqb (length (a .outline .now)) 4096) _ lengths) in
-    let store : length (a .store .now) ≡ 4096 = eqb-true _ 4096 (both-left (eqb (length (a .store .now)) 4096) _ (both-right (eqb (length (a .outline .now)) 4096) _ lengths)) in
-    let n : c .outline-size .result ≡ outlineSize (a .runs .now) = c .outline-size .ensures .0 in
-    let all : second .before .before .total .result ≡ total (a .runs .now) = second .before .before .total .ensures in
-    let few : outlineSize (a .runs .now) ≤ 2048 = size-most _ (outline-sized (a .runs .now) (right-counts second)) in
-    let most : total (a .runs .now) ≤ 2048 = total-most (a .runs .now) (right-counts second) in
-    (omega arith, omega arith)
+    let n : c .outline-size .result ≡ outlineSize (start first .args .runs .now) = c .outline-size .ensures .0 in
+    let few : outlineSize (start first .args .runs .now) ≤ 2048 = size-most _ (outline-sized (start first .args .runs .now) (right-counts second)) in
+    (omega (arith, n, few, lengths first .0 .0), omega (arith, n, few, lengths first .0 .1))
+
+on-grid-requires-2 : tie.Need-on-grid-requires-2
+on-grid-requires-2 c κs =
+    let second = c .before .before .before .before in
+    let first = second .before .before .before in
+    let all : second .before .before .total .result ≡ total (start first .args .runs .now) = second .before .before .total .ensures in
+    let most : total (start first .args .runs .now) ≤ 2048 = total-most (start first .args .runs .now) (right-counts second) in
+    (omega (arith, all, most, lengths first .1 .0), omega (arith, all, most, lengths first .1 .1))
 
 returns-4 : tie.Need-returns-4
 unfolding wellFormed
 returns-4 c =
-    let third = c .before .before in
+    let third = c .before .before .before in
     let second = third .before .before in
     let first = second .before .before .before in
-    let a = first .before .before .before .args in
-    let n = c .before .outline-size .ensures .0 in
+    let l = given (start first) in
+    let n = c .before .before .outline-size .ensures .0 in
     let all = second .before .before .total .ensures in
-    c .on-grid .ensures
-    ∙ (λ i. not (someBeyond (part (a .outline .now) 0 (n i))) && not (someBeyond (part (a .store .now) 0 (all i))))
+    (λ i. (c .before .on-grid .ensures ∙ ap (within (l .ox) (l .oy)) n) i && (c .on-grid2 .ensures ∙ ap (within (l .sx) (l .sy)) all) i)
     ∙ sym
     (goes-on (right-shape first) _
     ∙ goes-on (right-counts second) _
@@ -101,4 +110,5 @@ well-formed-spec =
     returns-3
     outline-size-requires
     on-grid-requires
+    on-grid-requires-2
     returns-4)

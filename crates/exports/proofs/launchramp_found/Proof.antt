@@ -2,7 +2,7 @@
 use mathlib.Core.Path.{ap, subst}
 use borrow.Author.Needs.{needs}
 use Rattle.register.specs.Founding.{founded}
-use Rattle.districts.specs.Lent.{Leaves}
+use Rattle.districts.specs.Lent.{lent, Leaves}
 use Rattle.exports.specs.Codes.{verdictCode}
 use Rattle.exports.proofs.Values.{tells-as}
 use Rattle.exports.proofs.launchramp_found.Statement.{statement}
@@ -23,14 +23,23 @@ same-length-2 c = search needs
 same-length-3 : tie.Need-same-length-3
 same-length-3 c = search needs
 
+same-length-4 : tie.Need-same-length-4
+same-length-4 c = search needs
+
+same-length-5 : tie.Need-same-length-5
+same-length-5 c = search needs
+
 returns : tie.Need-returns
 returns c =
-    let called = c .before .before .before .before .before .before in
-    let a = called .before .before .before .before .before .args in
+    let called = c .before .before .before .before .before .before .before .before in
+    let a = called .before .before .before .before .before .before .before .args in
     let by = called .found .ensures in
-    record { tells = tells-as (ap verdictCode (by .said)) (c .founded .ensures); left = subst (λ v. Leaves v (founded (a .ring .now)) (record { outline = a .outline .now; store = a .store .now; runs = a .runs .now }) (record { outline = called .found .last .0; store = called .found .last .1 .0; runs = called .found .last .1 .1 .0 })) (by .said) (by .left) }
+    let out = called .found .last in
+    let before = lent (a .ox .now) (a .oy .now) (a .sx .now) (a .sy .now) (a .runs .now) in
+    let after = lent (out .0) (out .1 .0) (out .1 .1 .0) (out .1 .1 .1 .0) (out .1 .1 .1 .1 .0) in
+    record { tells = tells-as (ap verdictCode (by .said)) (c .founded .ensures); left = subst (λ v. Leaves v (founded (a .ring .now)) before after) (by .said) (by .left) }
 
 pub launchramp-found-spec : {M : Type 1} → statement M
 launchramp-found-spec =
     tie.close
-    (tie.spec found-requires founded-requires same-length same-length-2 same-length-3 returns)
+    (tie.spec found-requires founded-requires same-length same-length-2 same-length-3 same-length-4 same-length-5 returns)

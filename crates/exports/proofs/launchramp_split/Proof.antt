@@ -18,11 +18,14 @@ same-length c = search needs
 same-length-2 : tie.Need-same-length-2
 same-length-2 c = search needs
 
+same-length-3 : tie.Need-same-length-3
+same-length-3 c = search needs
+
 returns : tie.Need-returns
 returns c =
-    let by = c .before .before .before .before .before .split .ensures in
+    let by = c .before .before .before .before .before .before .split .ensures in
     record { tells = tells-as (ap changeCode (by .said)) (c .changed .ensures); left = by .left }
 
 pub launchramp-split-spec : {M : Type 1} → statement M
 launchramp-split-spec =
-    tie.close (tie.spec split-requires changed-requires same-length same-length-2 returns)
+    tie.close (tie.spec split-requires changed-requires same-length same-length-2 same-length-3 returns)

@@ -21,9 +21,15 @@ slice-aggregate-read-all-4 c = search needs
 slice-aggregate-read-all-5 : tie.Need-slice-aggregate-read-all-5
 slice-aggregate-read-all-5 c = search needs
 
+slice-aggregate-read-all-6 : tie.Need-slice-aggregate-read-all-6
+slice-aggregate-read-all-6 c = search needs
+
+slice-aggregate-read-all-7 : tie.Need-slice-aggregate-read-all-7
+slice-aggregate-read-all-7 c = search needs
+
 read-all-requires : tie.Need-read-all-requires
 unfolding listTo
-read-all-requires c κs = (refl, fresh-lists _ _ refl refl)
+read-all-requires c κs = (refl, fresh-lists _ _ _ _ (refl, refl) (refl, refl))
 
 slice-aggregate-close : tie.Need-slice-aggregate-close
 slice-aggregate-close c = search needs
@@ -43,6 +49,8 @@ main-spec =
     slice-aggregate-read-all-3
     slice-aggregate-read-all-4
     slice-aggregate-read-all-5
+    slice-aggregate-read-all-6
+    slice-aggregate-read-all-7
     read-all-requires
     slice-aggregate-close
     close-requires

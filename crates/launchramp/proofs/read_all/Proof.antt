@@ -8,20 +8,20 @@ use lib.ListN.{length}
 use borrow.Author.Needs.{needs}
 use borrow.Author.Tests.{ltb-true}
 use Rattle.districts.proofs.Tests.{both-right}
-use Rattle.districts.specs.Lent.{formed}
+use Rattle.districts.specs.Lent.{lent, formed}
 use Rattle.launchramp.specs.Held.{piece, Kept, Went}
 use Rattle.launchramp.proofs.Keeping.{went-none, went-more}
 use Rattle.launchramp.proofs.read_all.Statement.{statement}
 use Rattle.launchramp.proofs.read_all.Tie as tie
 
 abbrev Inv-loop : tie.InvT-loop
-Inv-loop input₀ output₀ coordinates₀ outline₀ store₀ runs₀ d₀ turns₀ input output coordinates outline store runs d turns =
-    Went (record { outline = outline₀; store = store₀; runs = runs₀ }) d input (record { outline = outline; store = store; runs = runs })
-    × Kept d input × (formed (record { outline = outline; store = store; runs = runs }) ≡ true) × (d .records + turns * piece ≤ 4_611_686_018_427_387_904)
-    × (length input ≡ length input₀) × (length output ≡ length output₀) × (length outline ≡ length outline₀) × (length store ≡ length store₀) × (length runs ≡ length runs₀)
+Inv-loop input₀ output₀ coordinates₀ ox₀ oy₀ sx₀ sy₀ runs₀ d₀ turns₀ input output coordinates ox oy sx sy runs d turns =
+    Went (lent ox₀ oy₀ sx₀ sy₀ runs₀) d input (lent ox oy sx sy runs)
+    × Kept d input × (formed (lent ox oy sx sy runs) ≡ true) × (d .records + turns * piece ≤ 4_611_686_018_427_387_904)
+    × (length input ≡ length input₀) × (length output ≡ length output₀) × (length ox ≡ length ox₀) × (length oy ≡ length oy₀) × (length sx ≡ length sx₀) × (length sy ≡ length sy₀) × (length runs ≡ length runs₀)
 
 abbrev μ-loop : tie.MeasureT-loop
-μ-loop input₀ output₀ coordinates₀ outline₀ store₀ runs₀ d₀ turns₀ input output coordinates outline store runs d turns = turns
+μ-loop input₀ output₀ coordinates₀ ox₀ oy₀ sx₀ sy₀ runs₀ d₀ turns₀ input output coordinates ox oy sx sy runs d turns = turns
 
 new-requires : tie.Need-new-requires Inv-loop μ-loop
 new-requires c κs = search needs
@@ -29,11 +29,11 @@ new-requires c κs = search needs
 loop-holds : tie.Need-loop-holds Inv-loop μ-loop
 loop-holds c =
     let start = c .before .before .before .before in
-    (went-none _ _ _ (sym (c .new .ensures)) refl refl refl refl, record { taken = omega arith; there = omega arith }, start .pre .1 .0, omega arith, refl, refl, refl, refl, refl)
+    (went-none _ _ _ (sym (c .new .ensures)) refl refl refl refl, record { taken = omega arith; there = omega arith }, start .pre .1 .0, omega arith, refl, refl, refl, refl, refl, refl, refl)
 
 turn-requires : tie.Need-turn-requires Inv-loop μ-loop
 turn-requires c κs =
-    let loop = c .before .before .before .before .before .before .before .before in
+    let loop = c .before .before .before .before .before .before .before .before .before .before in
     let held = loop .loop .inv in
     let start = loop .before .before .before .before .before in
     record { kept = held .1; long = omega (arith, held .4, start .pre .0); form = held .2; countable = omega (arith, held .3) }
@@ -42,18 +42,29 @@ some-left : (c : tie.Then1 Inv-loop μ-loop) → 1 ≤ c .before .before .loop .
 some-left c = ltb-true 0 _ (both-right (c .before .before .loop .d .going) (ltb 0 (c .before .before .loop .turns)) (c .if1 .taken))
 
 sub-turns : tie.Need-sub-turns Inv-loop μ-loop
-sub-turns c = some-left (c .before .before .before .before .before .before .before .before .before .before .before .before .before .before .before)
+sub-turns c = some-left (c .before .before .before .before .before .before .before .before .before .before .before .before .before .before .before .before .before .before .before)
 
 loop-less : tie.Need-loop-less Inv-loop μ-loop
-loop-less c = let some = some-left (c .before .before .before .before .before .before .before .before .before .before .before .before .before .before .before) in omega (arith, some)
+loop-less c = let some = some-left (c .before .before .before .before .before .before .before .before .before .before .before .before .before .before .before .before .before .before .before) in omega (arith, some)
 
 loop-again : tie.Need-loop-again Inv-loop μ-loop
 loop-again c =
-    let called = c .before .before .before .before .before .before .before .before in
-    let held = called .before .before .before .before .before .before .before .before .before .loop .inv in
+    let called = c .before .before .before .before .before .before .before .before .before .before in
+    let held = called .before .before .before .before .before .before .before .before .before .before .before .loop .inv in
     let turned = called .turn .ensures in
-    let some = some-left (called .before .before .before .before .before .before .before) in
-    (went-more _ _ _ _ _ _ _ (held .0) (turned .turns), turned .kept, turned .form, omega (arith, held .3, turned .records, some), search (needs, held .4), search (needs, held .5), search (needs, held .6), search (needs, held .7), search (needs, held .8))
+    let some = some-left (called .before .before .before .before .before .before .before .before .before) in (
+      went-more _ _ _ _ _ _ _ (held .0) (turned .turns),
+      turned .kept,
+      turned .form,
+      omega (arith, held .3, turned .records, some),
+      search (needs, held .4),
+      search (needs, held .5),
+      search (needs, held .6),
+      search (needs, held .7),
+      search (needs, held .8),
+      search (needs, held .9),
+      search (needs, held .10),
+    )
 
 same-length : tie.Need-same-length Inv-loop μ-loop
 same-length c = c .before .before .loop .inv .4
@@ -69,6 +80,12 @@ same-length-4 c = c .before .before .loop .inv .7
 
 same-length-5 : tie.Need-same-length-5 Inv-loop μ-loop
 same-length-5 c = c .before .before .loop .inv .8
+
+same-length-6 : tie.Need-same-length-6 Inv-loop μ-loop
+same-length-6 c = c .before .before .loop .inv .9
+
+same-length-7 : tie.Need-same-length-7 Inv-loop μ-loop
+same-length-7 c = c .before .before .loop .inv .10
 
 returns : tie.Need-returns Inv-loop μ-loop
 returns c = c .before .before .loop .inv .0
@@ -90,4 +107,6 @@ read-all-spec =
     same-length-3
     same-length-4
     same-length-5
+    same-length-6
+    same-length-7
     returns)

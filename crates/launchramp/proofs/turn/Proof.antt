@@ -7,7 +7,7 @@ use Rattle.launchramp.proofs.turn.Statement.{statement}
 use Rattle.launchramp.proofs.turn.Tie as tie
 
 abbrev start : tie.After-print → tie.Start
-start called = called .before .before .before .before .before .before .before .before .before .before .before
+start called = called .before .before .before .before .before .before .before .before .before .before .before .before .before
 
 within : (called : tie.After-print) → Within (start called .args .d) (called .print .result)
 within called = let s = start called in printed-within (s .args .d) (s .args .input .now) _ _ _ _ (called .print .result) _ _ _ (s .pre) (called .print .ensures .0)
@@ -26,7 +26,7 @@ print-requires c κs = search needs
 
 add-follow : tie.Need-add-follow
 add-follow c =
-    let taken = within (c .before .before .before .before .before .before .before .before) in
+    let taken = within (c .before .before .before .before .before .before .before .before .before .before) in
     record { fits = omega (arith, taken .at, taken .small) }
 
 sub-follow : tie.Need-sub-follow
@@ -40,7 +40,7 @@ part-follow-end c = search needs
 
 follow-requires : tie.Need-follow-requires
 follow-requires c κs =
-    let called = c .before .before .before .before .before .before .before .before .before .before .before in
+    let called = c .before .before .before .before .before .before .before .before .before .before .before .before .before in
     (next-kept _ _ _ _ _ _ _ _ (called .print .result) (start called .pre) (called .print .ensures .0) (called .print .ensures .1), refl, refl)
 
 same-length : tie.Need-same-length
@@ -58,10 +58,16 @@ same-length-4 c = search needs
 same-length-5 : tie.Need-same-length-5
 same-length-5 c = search needs
 
+same-length-6 : tie.Need-same-length-6
+same-length-6 c = search needs
+
+same-length-7 : tie.Need-same-length-7
+same-length-7 c = search needs
+
 returns : tie.Need-returns
 returns c =
     let followed = c .before .before in
-    let called = followed .before .before .before .before .before .before .before .before .before .before .before .before in
+    let called = followed .before .before .before .before .before .before .before .before .before .before .before .before .before .before in
     turned _ _ _ _ _ _ _ _ (called .print .result) (start called .pre) (called .print .ensures .0) (called .print .ensures .1) (followed .follow .result) _ (followed .follow .ensures)
 
 pub turn-spec : {M : Type 1} → statement M
@@ -82,4 +88,6 @@ turn-spec =
     same-length-3
     same-length-4
     same-length-5
+    same-length-6
+    same-length-7
     returns)

@@ -1,8 +1,13 @@
 -- `changes::splitting::perform` copies the district's ring before its room is closed. Assumes nothing.
+use Prim.Native.Nat.{_+_, _≤_}
 use native.Mathlib.Omega.{arith}
-use mathlib.Core.Path.{ap, subst}
+use mathlib.Core.Path.{sym, ap, subst, _∙_}
+use lib.ListN.{length}
 use Rattle.ring.specs.Grid.{vertices}
+use Rattle.ring.specs.Columns.{points}
+use Rattle.ring.proofs.Columns.{length-points}
 use Rattle.districts.specs.Lists.{firstPlace, size, part}
+use Rattle.districts.proofs.Lent.{part-length}
 use Rattle.room.proofs.Written.{read-back}
 use Rattle.judging.specs.Splitting.{pieceOne, pieceTwo}
 use Rattle.changes.specs.declared.Changed.the-variants.{Done}
@@ -38,20 +43,27 @@ same-length c = search needs
 same-length-2 : tie.Need-same-length-2
 same-length-2 c = search needs
 
+same-length-3 : tie.Need-same-length-3
+same-length-3 c = search needs
+
 returns : tie.Need-returns
 returns c =
-    let done = c .before .before .before in
-    let got = done .before .before .before .before .before .before in
-    let free = got .before .before .before .before in
+    let done = c .before .before .before .before in
+    let got = done .before .before .before .before .before .before .before in
+    let free = got .before .before .before .before .before in
     let s = free .before .before .before in
-    let store = s .args .store .now in
-    let runs = s .args .runs .now in
-    let d = s .args .d in
-    let W = vertices (s .args .path .now) in
+    let a = s .args in
+    let store = points (a .sx .now) (a .sy .now) in
+    let runs = a .runs .now in
+    let W = vertices (a .path .now) in
     let number = free .lowest-unused .ensures .0 in
-    let ring = read-back store (firstPlace runs d) (size runs d) (omega (arith, s .pre .0 .0, s .pre .1 .0, s .pre .1 .1 .1 .1)) _ _ (got .copy-ring .ensures .1) _ (got .copy-ring .ensures .0) in
-    let divided = subst (λ xs. Divided store runs d (free .lowest-unused .result) (pieceOne (vertices xs) (s .args .i) (s .args .j) W) (pieceTwo (vertices xs) (s .args .i) (s .args .j) W) (done .divide .last .0) (done .divide .last .1 .0)) ring (done .divide .ensures) in
-    (ap Done number, subst (λ e. Divided store runs d e (pieceOne (vertices (part store (firstPlace runs d) (size runs d))) (s .args .i) (s .args .j) W) (pieceTwo (vertices (part store (firstPlace runs d) (size runs d))) (s .args .i) (s .args .j) W) (done .divide .last .0) (done .divide .last .1 .0)) number divided)
+    let fits : firstPlace runs (a .d) + size runs (a .d) ≤ length store = omega (arith, length-points (a .sx .now) (a .sy .now) (s .pre .0 .0 ∙ sym (s .pre .0 .1)), s .pre .0 .0, s .pre .1 .0, s .pre .1 .1 .1 .1) in
+    let ring = read-back (part store (firstPlace runs (a .d)) (size runs (a .d))) _ (part-length store (firstPlace runs (a .d)) (size runs (a .d)) fits) _ _ (got .copy-ring .ensures .1) _ (got .copy-ring .ensures .0) in
+    let store′ = points (done .divide .last .0) (done .divide .last .1 .0) in
+    let runs′ = done .divide .last .1 .1 .0 in
+    let divided = subst (λ P. Divided store runs (a .d) (free .lowest-unused .result) (pieceOne P (a .i) (a .j) W) (pieceTwo P (a .i) (a .j) W) store′ runs′) ring (done .divide .ensures) in
+    let P = part store (firstPlace runs (a .d)) (size runs (a .d)) in
+    (ap Done number, subst (λ e. Divided store runs (a .d) e (pieceOne P (a .i) (a .j) W) (pieceTwo P (a .i) (a .j) W) store′ runs′) number divided)
 
 pub perform-spec : {M : Type 1} → statement M
 perform-spec =
@@ -66,4 +78,5 @@ perform-spec =
     divide-requires
     same-length
     same-length-2
+    same-length-3
     returns)

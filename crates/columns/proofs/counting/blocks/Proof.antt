@@ -9,7 +9,7 @@ use Rattle.ring.specs.declared.Point.{Point}
 use Rattle.ring.specs.Columns.{points}
 use Rattle.ring.specs.Walk.{Counts, none}
 use Rattle.columns.specs.Walk.{Ready}
-use Rattle.columns.proofs.Spots.{length-points}
+use Rattle.ring.proofs.Columns.{length-points}
 use Rattle.ring.proofs.Walks.{counts-none, counts-on, counts-all}
 use Rattle.columns.proofs.counting.blocks.Statement.{statement}
 use Rattle.columns.proofs.counting.blocks.Tie as tie

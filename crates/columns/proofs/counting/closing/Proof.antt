@@ -9,7 +9,7 @@ use Rattle.ring.specs.Rings.{at}
 use Rattle.ring.specs.Walk.{headOf, Sight, none}
 use Rattle.ring.proofs.Vertices.{at-end}
 use Rattle.ring.proofs.Walks.{counts-edge}
-use Rattle.columns.proofs.Spots.{length-points}
+use Rattle.ring.proofs.Columns.{length-points}
 use Rattle.columns.proofs.counting.closing.Statement.{statement}
 use Rattle.columns.proofs.counting.closing.Tie as tie
 

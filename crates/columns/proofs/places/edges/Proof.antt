@@ -15,7 +15,7 @@ use Rattle.ring.specs.Rings.{at}
 use Rattle.ring.specs.Locate.{onEdge}
 use Rattle.ring.specs.Walk.{headOf, Way}
 use Rattle.ring.proofs.Vertices.{at-end}
-use Rattle.columns.proofs.Spots.{length-points}
+use Rattle.ring.proofs.Columns.{length-points}
 use Rattle.ring.proofs.Spans.{Spans, spans-none, spans-edge, spans-all}
 use Rattle.columns.proofs.places.edges.Statement.{statement}
 use Rattle.columns.proofs.places.edges.Tie as tie

@@ -9,7 +9,7 @@ slice-aggregate-mark-all : tie.Need-slice-aggregate-mark-all
 slice-aggregate-mark-all c = search needs
 
 mark-all-requires : tie.Need-mark-all-requires
-mark-all-requires c κs = (c .before .before .pre .0, marked-none _ 2048 refl)
+mark-all-requires c κs = let s = c .before .before in (s .pre .0, (s .pre .1 .0, (s .pre .1 .1, marked-none _ 2048 refl)))
 
 slice-aggregate-chained : tie.Need-slice-aggregate-chained
 slice-aggregate-chained c = search needs

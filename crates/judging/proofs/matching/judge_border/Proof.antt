@@ -7,9 +7,9 @@ use mathlib.Core.List.{List, _∷_}
 use lib.Dec.{eqb, leb, ltb}
 use lib.ListN.{length}
 use borrow.Author.Tests.{leb-false, lt-ltb, le-ltb, not-true, not-false}
-use Rattle.ring.specs.Grid.{vertices}
+use Rattle.ring.specs.Columns.{points}
 use Rattle.ring.proofs.Pick.{neither-left, neither-right}
-use Rattle.ring.proofs.Vertices.{length-vertices}
+use Rattle.ring.proofs.Columns.{length-points}
 use Rattle.districts.proofs.Tests.{passes-left, passes-right}
 use Rattle.refusals.specs.Verdicts.{Test, _if_, Verdict, verdict}
 use Rattle.judging.specs.Merging.{matches, merged}
@@ -21,23 +21,23 @@ use Rattle.judging.proofs.matching.judge_border.Tie as tie
 
 -- ---- the tests as the table has them, of rings of n and m vertices
 
-long : (s : tie.Start) → (length (vertices (s .args .ring .now)) ≡ s .args .n) × (length (vertices (s .args .other .now)) ≡ s .args .m)
-long s = (length-vertices (s .args .ring .now) (s .args .n) (s .pre .0), length-vertices (s .args .other .now) (s .args .m) (s .pre .1))
+long : (s : tie.Start) → (length (points (s .args .xs .now) (s .args .ys .now)) ≡ length (s .args .xs .now)) × (length (points (s .args .us .now) (s .args .vs .now)) ≡ length (s .args .us .now))
+long s = (length-points (s .args .xs .now) (s .args .ys .now) (s .pre .0 .0), length-points (s .args .us .now) (s .args .vs .now) (s .pre .0 .1))
 
-indices : (s : tie.Start) → let a = s .args in (leb (a .n) (a .a) || leb (a .m) (a .b)) ≡ (leb (length (vertices (a .ring .now))) (a .a) || leb (length (vertices (a .other .now))) (a .b))
+indices : (s : tie.Start) → let a = s .args in (leb (length (a .xs .now)) (a .a) || leb (length (a .us .now)) (a .b)) ≡ (leb (length (points (a .xs .now) (a .ys .now))) (a .a) || leb (length (points (a .us .now) (a .vs .now))) (a .b))
 indices s = λ t. leb (sym (long s .0) t) (s .args .a) || leb (sym (long s .1) t) (s .args .b)
 
-edges : (s : tie.Start) → let a = s .args in (eqb (a .k) 0 || (leb (a .n) (a .k) || leb (a .m) (a .k))) ≡ (eqb (a .k) 0 || (leb (length (vertices (a .ring .now))) (a .k) || leb (length (vertices (a .other .now))) (a .k)))
+edges : (s : tie.Start) → let a = s .args in (eqb (a .k) 0 || (leb (length (a .xs .now)) (a .k) || leb (length (a .us .now)) (a .k))) ≡ (eqb (a .k) 0 || (leb (length (points (a .xs .now) (a .ys .now))) (a .k) || leb (length (points (a .us .now) (a .vs .now))) (a .k)))
 edges s = λ t. eqb (s .args .k) 0 || (leb (sym (long s .0) t) (s .args .k) || leb (sym (long s .1) t) (s .args .k))
 
 -- what the first two tests leave: the indices and the edges are fewer than the vertices
-inside : (c : tie.Else2) → let a = c .before .before .args in ((a .a < a .n) × (a .b < a .m)) × ((a .k < a .n) × (a .k < a .m))
+inside : (c : tie.Else2) → let a = c .before .before .args in ((a .a < length (a .xs .now)) × (a .b < length (a .us .now))) × ((a .k < length (a .xs .now)) × (a .k < length (a .us .now)))
 inside c =
     let a = c .before .before .args in
     let each = c .before .if1 .left in
     let most = neither-right (eqb (a .k) 0) _ (c .if2 .left) in (
-      (leb-false (a .n) (a .a) (neither-left _ _ each), leb-false (a .m) (a .b) (neither-right (leb (a .n) (a .a)) _ each)),
-      (leb-false (a .n) (a .k) (neither-left _ _ most), leb-false (a .m) (a .k) (neither-right (leb (a .n) (a .k)) _ most)),
+      (leb-false (length (a .xs .now)) (a .a) (neither-left _ _ each), leb-false (length (a .us .now)) (a .b) (neither-right (leb (length (a .xs .now)) (a .a)) _ each)),
+      (leb-false (length (a .xs .now)) (a .k) (neither-left _ _ most), leb-false (length (a .us .now)) (a .k) (neither-right (leb (length (a .xs .now)) (a .k)) _ most)),
     )
 
 returns : tie.Need-returns
@@ -48,8 +48,10 @@ returns-2 c = left-to 8 _ _ (sym (indices (c .before .before)) ∙ c .before .if
 
 matches-requires : tie.Need-matches-requires
 matches-requires c κs =
-    let s = c .before .before in
-    ((s .pre .0, inside c .0 .0, inside c .1 .0), (s .pre .1, inside c .0 .1, inside c .1 .1))
+    let s = c .before .before in (
+      record { even = s .pre .0 .0; most = s .pre .1 .0; index = inside c .0 .0; less = inside c .1 .0 },
+      record { even = s .pre .0 .1; most = s .pre .1 .1; index = inside c .0 .1; less = inside c .1 .1 },
+    )
 
 returns-3 : tie.Need-returns-3
 returns-3 c =
@@ -57,7 +59,7 @@ returns-3 c =
     let enough = differ .before in
     let s = enough .before .before in
     left-to 8 _ _ (sym (indices s) ∙ enough .before .if1 .left)
-    (refused-by 10 _ _ (passes-right (eqb (s .args .k) 0 || (leb (length (vertices (s .args .ring .now))) (s .args .k) || leb (length (vertices (s .args .other .now))) (s .args .k))) (ap not (sym (differ .matches .ensures) ∙ not-true _ (c .if3 .taken)))))
+    (refused-by 10 _ _ (passes-right (eqb (s .args .k) 0 || (leb (length (points (s .args .xs .now) (s .args .ys .now))) (s .args .k) || leb (length (points (s .args .us .now) (s .args .vs .now))) (s .args .k))) (ap not (sym (differ .matches .ensures) ∙ not-true _ (c .if3 .taken)))))
 
 sub-if4 : tie.Need-sub-if4
 sub-if4 c = let h = inside (c .before .before) .1 .0 in omega arith
@@ -68,16 +70,16 @@ sub-if4-2 c = let h = inside (c .before .before) .1 .1 in omega arith
 add-if4 : tie.Need-add-if4
 add-if4 c = search needs
 
-few : (c : tie.Else3) → let a = c .before .before .before .before .args in ltb (a .n - a .k + (a .m - a .k)) 3 ≡ ltb (length (merged (vertices (a .ring .now)) (a .a) (vertices (a .other .now)) (a .b) (a .k))) 3
+few : (c : tie.Else3) → let a = c .before .before .before .before .args in ltb (length (a .xs .now) - a .k + (length (a .us .now) - a .k)) 3 ≡ ltb (length (merged (points (a .xs .now) (a .ys .now)) (a .a) (points (a .us .now) (a .vs .now)) (a .b) (a .k))) 3
 few c =
     let enough = c .before .before in
     let s = enough .before .before in
     let a = s .args in
-    ap (λ n. ltb n 3) (sym (merged-length (vertices (a .ring .now)) (vertices (a .other .now)) (a .a) (a .b) (a .n) (a .m) (a .k) (long s .0) (long s .1) (inside enough .1 .0) (inside enough .1 .1)))
+    ap (λ n. ltb n 3) (sym (merged-length (points (a .xs .now) (a .ys .now)) (points (a .us .now) (a .vs .now)) (a .a) (a .b) (length (a .xs .now)) (length (a .us .now)) (a .k) (long s .0) (long s .1) (inside enough .1 .0) (inside enough .1 .1)))
 
 -- refusals 8 and 10 are passed
 passed : (c : tie.Else3) (r : Verdict) (ts : List Test) → let s = c .before .before .before .before in r ≡ verdict ts
-    → r ≡ verdict ((8 if leb (length (vertices (s .args .ring .now))) (s .args .a) || leb (length (vertices (s .args .other .now))) (s .args .b)) ∷ (10 if (eqb (s .args .k) 0 || (leb (length (vertices (s .args .ring .now))) (s .args .k) || leb (length (vertices (s .args .other .now))) (s .args .k))) || not (matches (vertices (s .args .ring .now)) (s .args .a) (vertices (s .args .other .now)) (s .args .b) (s .args .k))) ∷ ts)
+    → r ≡ verdict ((8 if leb (length (points (s .args .xs .now) (s .args .ys .now))) (s .args .a) || leb (length (points (s .args .us .now) (s .args .vs .now))) (s .args .b)) ∷ (10 if (eqb (s .args .k) 0 || (leb (length (points (s .args .xs .now) (s .args .ys .now))) (s .args .k) || leb (length (points (s .args .us .now) (s .args .vs .now))) (s .args .k))) || not (matches (points (s .args .xs .now) (s .args .ys .now)) (s .args .a) (points (s .args .us .now) (s .args .vs .now)) (s .args .b) (s .args .k))) ∷ ts)
 passed c r ts e =
     let enough = c .before .before in
     let s = enough .before .before in

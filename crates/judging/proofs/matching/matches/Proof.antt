@@ -5,11 +5,12 @@ use native.Mathlib.Omega.{arith}
 use mathlib.Core.Path.{_≡_, sym, ap, _∙_}
 use mathlib.Core.Bool.{true}
 use mathlib.Core.List.{List}
+use lib.ListN.{length}
 use borrow.Author.Needs.{needs}
 use borrow.Author.Tests.{not-true, not-false}
 use Rattle.ring.specs.declared.Point.{Point}
-use Rattle.ring.specs.Grid.{vertices}
-use Rattle.ring.proofs.Vertices.{length-vertices}
+use Rattle.ring.specs.Columns.{points}
+use Rattle.ring.proofs.Columns.{length-points}
 use Rattle.judging.proofs.Matched.{meetsAt, match-all, match-fails}
 use Rattle.judging.proofs.matching.matches.Statement.{statement}
 use Rattle.judging.proofs.matching.matches.Tie as tie
@@ -31,10 +32,10 @@ met-more P a Q b m k t h e met = record {
 }
 
 abbrev Inv-loop : tie.InvT-loop
-Inv-loop ring n a other m b k t₀ t = Met (vertices ring) a (vertices other) b m k t
+Inv-loop xs ys a us vs b k t₀ t = Met (points xs ys) a (points us vs) b (length us) k t
 
 abbrev μ-loop : tie.MeasureT-loop
-μ-loop ring n a other m b k t₀ t = suc k - t
+μ-loop xs ys a us vs b k t₀ t = suc k - t
 
 loop-holds : tie.Need-loop-holds Inv-loop μ-loop
 loop-holds c = record { most = omega arith; each = λ s h. absurd (let f : ⊥ = omega arith in f) }
@@ -48,7 +49,7 @@ returns c =
     let turn = met .before .before in
     let s = turn .before in
     let a = s .args in
-    match-fails (vertices (a .ring .now)) (a .a) (vertices (a .other .now)) (a .b) (a .m) (a .k) (length-vertices (a .other .now) (a .m) (s .pre .1 .0)) (turn .loop .t) (omega (arith, met .before .loop-test .taken)) (sym (met .meets .ensures) ∙ not-true _ (c .if1 .taken))
+    match-fails (points (a .xs .now) (a .ys .now)) (a .a) (points (a .us .now) (a .vs .now)) (a .b) (length (a .us .now)) (a .k) (length-points (a .us .now) (a .vs .now) (s .pre .1 .even)) (turn .loop .t) (omega (arith, met .before .loop-test .taken)) (sym (met .meets .ensures) ∙ not-true _ (c .if1 .taken))
 
 add-t : tie.Need-add-t Inv-loop μ-loop
 add-t c = search needs
@@ -61,14 +62,14 @@ loop-again c =
     let met = c .before in
     let turn = met .before .before in
     let a = turn .before .args in
-    met-more (vertices (a .ring .now)) (a .a) (vertices (a .other .now)) (a .b) (a .m) (a .k) (turn .loop .t) (omega (arith, met .before .loop-test .taken)) (sym (met .meets .ensures) ∙ not-false _ (c .if1 .left)) (turn .loop .inv)
+    met-more (points (a .xs .now) (a .ys .now)) (a .a) (points (a .us .now) (a .vs .now)) (a .b) (length (a .us .now)) (a .k) (turn .loop .t) (omega (arith, met .before .loop-test .taken)) (sym (met .meets .ensures) ∙ not-false _ (c .if1 .left)) (turn .loop .inv)
 
 returns-2 : tie.Need-returns-2 Inv-loop μ-loop
 returns-2 c =
     let end = c .before in
     let s = end .before in
     let a = s .args in
-    match-all (vertices (a .ring .now)) (a .a) (vertices (a .other .now)) (a .b) (a .m) (a .k) (length-vertices (a .other .now) (a .m) (s .pre .1 .0)) (λ t h. end .loop .inv .each t (omega (arith, c .loop-test .left)))
+    match-all (points (a .xs .now) (a .ys .now)) (a .a) (points (a .us .now) (a .vs .now)) (a .b) (length (a .us .now)) (a .k) (length-points (a .us .now) (a .vs .now) (s .pre .1 .even)) (λ t h. end .loop .inv .each t (omega (arith, c .loop-test .left)))
 
 pub matches-spec : {M : Type 1} → statement M
 matches-spec =

@@ -1,10 +1,12 @@
 -- `judging::matching::meets` reads both vertices at indices that wrap. Assumes nothing.
 use Prim.Native.Nat.{_+_, _-_}
 use mathlib.Core.Path.{ap, _∙_}
-use Rattle.ring.specs.Grid.{vertices}
+use lib.ListN.{length}
+use Rattle.ring.specs.Columns.{points}
 use Rattle.ring.specs.Rings.{at}
 use Rattle.ring.specs.Segment.{same}
-use Rattle.ring.proofs.Vertices.{length-vertices, at-rest}
+use Rattle.ring.proofs.Vertices.{at-rest}
+use Rattle.ring.proofs.Columns.{length-points}
 use borrow.Author.Needs.{needs}
 use Rattle.judging.proofs.matching.meets.Statement.{statement}
 use Rattle.judging.proofs.matching.meets.Tie as tie
@@ -38,10 +40,11 @@ returns c =
     let q = c .before in
     let p = q .before .before in
     let s = p .before .before in
-    let P = vertices (s .args .ring .now) in
-    let Q = vertices (s .args .other .now) in
-    let here = p .vertex .ensures ∙ ap (at P) (p .before .around .ensures .0) ∙ at-rest P (s .args .n) (s .args .a + s .args .t) (length-vertices (s .args .ring .now) (s .args .n) (s .pre .0 .0)) in
-    let there = q .vertex2 .ensures ∙ ap (at Q) (q .before .around2 .ensures .0) ∙ at-rest Q (s .args .m) (s .args .b + s .args .m - s .args .t) (length-vertices (s .args .other .now) (s .args .m) (s .pre .1 .0)) in
+    let a = s .args in
+    let P = points (a .xs .now) (a .ys .now) in
+    let Q = points (a .us .now) (a .vs .now) in
+    let here = p .vertex .ensures ∙ ap (at P) (p .before .around .ensures .0) ∙ at-rest P (length (a .xs .now)) (a .a + a .t) (length-points (a .xs .now) (a .ys .now) (s .pre .0 .even)) in
+    let there = q .vertex2 .ensures ∙ ap (at Q) (q .before .around2 .ensures .0) ∙ at-rest Q (length (a .us .now)) (a .b + length (a .us .now) - a .t) (length-points (a .us .now) (a .vs .now) (s .pre .1 .even)) in
     c .same .ensures ∙ (λ i. same (here i) (there i))
 
 pub meets-spec : {M : Type 1} → statement M

@@ -2,7 +2,7 @@
 use mathlib.Core.Path.{sym, ap, _∙_}
 use borrow.Author.Needs.{needs}
 use Rattle.refusals.specs.Verdicts.{verdict, verdictOf}
-use Rattle.districts.specs.Lent.{Lists}
+use Rattle.districts.specs.Lent.{Lists, lent, outlineOf, storeOf}
 use Rattle.districts.proofs.Meaning.{slot-is}
 use Rattle.districts.proofs.Lent.{good-runs}
 use Rattle.judging.specs.Judging.{pairTests}
@@ -10,8 +10,8 @@ use Rattle.districts.proofs.Begun.{begun-formed, begun-passed, begun-refused}
 use Rattle.judging.proofs.matching.merge.Statement.{statement}
 use Rattle.judging.proofs.matching.merge.Tie as tie
 
-abbrev lent : tie.Start → Lists
-lent s = record { outline = s .args .outline .now; store = s .args .store .now; runs = s .args .runs .now }
+abbrev lists : tie.Start → Lists
+lists s = lent (s .args .ox .now) (s .args .oy .now) (s .args .sx .now) (s .args .sy .now) (s .args .runs .now)
 
 usable-requires : tie.Need-usable-requires
 usable-requires c κs = search needs
@@ -22,8 +22,8 @@ enum-told c = search needs
 judge-pair-requires : tie.Need-judge-pair-requires
 judge-pair-requires c κs =
     let used = c .before .before in
-    let l = lent (used .before .before) in
-    good-runs (l .outline) (l .store) (l .runs) (begun-formed l (used .usable .result) (used .usable .ensures) (c .enum-told .given .1))
+    let l = lists (used .before .before) in
+    good-runs l (begun-formed l (used .usable .result) (used .usable .ensures) (c .enum-told .given .1))
 
 enum-known-r : tie.Need-enum-known-r
 enum-known-r c = search needs
@@ -33,10 +33,10 @@ returns c =
     let told = c .before in
     let used = told .before .before in
     let s = used .before .before in
-    let l = lent s in
+    let l = lists s in
     let a = s .args in
     let well = begun-formed l (used .usable .result) (used .usable .ensures) (told .enum-told .given .1) in
-    let slots = slot-is (l .outline) (l .store) (l .runs) (good-runs (l .outline) (l .store) (l .runs) well .runs-length) in
+    let slots = slot-is (outlineOf l) (storeOf l) (l .runs) (good-runs l well .runs-length) in
     begun-passed l (used .usable .result) (used .usable .ensures) (told .enum-told .given .1) _ _
     (c .judge-pair .ensures ∙ (λ t. verdict (pairTests (sym (slots (a .kept)) t) (sym (slots (a .gone)) t) (a .kept) (a .a) (a .gone) (a .b) (a .k))))
 
@@ -44,7 +44,7 @@ returns-2 : tie.Need-returns-2
 returns-2 c =
     let refused = c .before in
     let used = refused .before .before in
-    begun-refused (lent (used .before .before)) (used .usable .result) (used .usable .ensures) _ (ap verdictOf (refused .r .given .1)) _
+    begun-refused (lists (used .before .before)) (used .usable .result) (used .usable .ensures) _ (ap verdictOf (refused .r .given .1)) _
 
 pub merge-spec : {M : Type 1} → statement M
 merge-spec =

@@ -14,14 +14,14 @@ use Rattle.districts.proofs.Sound.{runs-length}
 use Rattle.refusals.specs.Verdicts.{_if_, verdict}
 use Rattle.districts.specs.Register.{inUse}
 use Rattle.register.specs.Founding.{foundTests}
-use Rattle.districts.specs.Lent.{Lists, formed, means}
+use Rattle.districts.specs.Lent.{Lists, lent, outlineOf, storeOf, formed, means}
 use Rattle.districts.proofs.Lent.{outline-in-use}
 use Rattle.refusals.proofs.Verdicts.{stops-at, passes, passed-all}
 use Rattle.register.proofs.founding.judged.Statement.{statement}
 use Rattle.register.proofs.founding.judged.Tie as tie
 
-abbrev lent : tie.Start → Lists
-lent s = record { outline = s .args .outline .now; store = s .args .store .now; runs = s .args .runs .now }
+abbrev given : tie.Start → Lists
+given s = lent (s .args .ox .now) (s .args .oy .now) (s .args .sx .now) (s .args .sy .now) (s .args .runs .now)
 
 well-formed-requires : tie.Need-well-formed-requires
 well-formed-requires c κs = search needs
@@ -29,19 +29,18 @@ well-formed-requires c κs = search needs
 returns : tie.Need-returns
 returns c = sym (stops-at 1 _ _ (ap not (sym (c .before .well-formed .ensures) ∙ not-true _ (c .if1 .taken))))
 
-good : (c : tie.Else1) → formed (lent (c .before .before .before)) ≡ true
+good : (c : tie.Else1) → formed (given (c .before .before .before)) ≡ true
 good c = sym (c .before .well-formed .ensures) ∙ not-false _ (c .if1 .left)
 
 outline-size-requires : tie.Need-outline-size-requires
 outline-size-requires c κs =
-    let s = c .before .before .before in
-    runs-length (s .args .outline .now) (s .args .store .now) (s .args .runs .now) (good c)
+    runs-length (given (c .before .before .before)) (good c)
 
 -- whether there is an outline is told by its size
-outlined : (c : tie.After-outline-size) (b : Bool) → not (eqb (c .outline-size .result) 0) ≡ b → inUse (means (lent (c .before .before .before .before)) .outline) ≡ b
+outlined : (c : tie.After-outline-size) (b : Bool) → not (eqb (c .outline-size .result) 0) ≡ b → inUse (means (given (c .before .before .before .before)) .outline) ≡ b
 outlined c b e =
-    let a = c .before .before .before .before .args in
-    outline-in-use (a .outline .now) (a .store .now) (a .runs .now) ∙ ap (λ n. not (eqb n 0)) (sym (c .outline-size .ensures .0)) ∙ e
+    let l = given (c .before .before .before .before) in
+    outline-in-use (outlineOf l) (storeOf l) (l .runs) ∙ ap (λ n. not (eqb n 0)) (sym (c .outline-size .ensures .0)) ∙ e
 
 returns-2 : tie.Need-returns-2
 returns-2 c =
@@ -53,7 +52,7 @@ no-ring-requires : tie.Need-no-ring-requires
 no-ring-requires c κs = search needs
 
 -- the first two tests passed
-two-passed : (c : tie.Else2) (xs : List ℤ) → verdict (foundTests (formed (lent (c .before .before .before .before .before))) (means (lent (c .before .before .before .before .before))) xs) ≡ verdict ((4 if noRing (length xs) (length xs / 2)) ∷ (5 if someBeyond xs) ∷ [])
+two-passed : (c : tie.Else2) (xs : List ℤ) → verdict (foundTests (formed (given (c .before .before .before .before .before))) (means (given (c .before .before .before .before .before))) xs) ≡ verdict ((4 if noRing (length xs) (length xs / 2)) ∷ (5 if someBeyond xs) ∷ [])
 two-passed c xs =
     passes 1 _ _ (ap not (good (c .before .before)))
     ∙ passes 3 _ _ (outlined (c .before) false (ap not (eq-eqb (c .before .outline-size .result) 0 (omega arith))))

@@ -1,14 +1,11 @@
 -- `register::placing::assign_at` answers by the kind of position. Assumes nothing.
 use mathlib.Core.Path.{_≡_, sym, ap, _∙_}
-use mathlib.Core.Bool.{Bool}
 use mir.Syntax.{w32}
 use mir.Val.{SFits}
 use mir.Facts.{toZ-ofZ}
 use borrow.Author.Needs.{needs}
 use Rattle.districts.specs.Answers.{answerOf}
-use Rattle.districts.specs.Lists.{meaning}
-use Rattle.districts.specs.Register.{Register}
-use Rattle.districts.specs.WellFormed.{wellFormed}
+use Rattle.districts.specs.Lent.{Lists, lent, formed, means}
 use Rattle.register.specs.Sorting.{assigned}
 use Rattle.register.specs.declared.Position.{Position}
 use Rattle.register.specs.Placing.{assignedAt, refusedAs}
@@ -16,14 +13,11 @@ use Rattle.register.proofs.ByPosition.{grid-as-before, missing-is}
 use Rattle.register.proofs.placing.assign_at.Statement.{statement}
 use Rattle.register.proofs.placing.assign_at.Tie as tie
 
-abbrev lent : tie.Start → Register
-lent s = meaning (s .args .outline .now) (s .args .store .now) (s .args .runs .now)
+abbrev lists : tie.Start → Lists
+lists s = lent (s .args .ox .now) (s .args .oy .now) (s .args .sx .now) (s .args .sy .now) (s .args .runs .now)
 
-abbrev formed : tie.Start → Bool
-formed s = wellFormed (s .args .outline .now) (s .args .store .now) (s .args .runs .now)
-
-with-position : (s : tie.Start) (p : Position) → s .args .position ≡ p → assignedAt (formed s) (lent s) (s .args .number) (s .args .position) ≡ assignedAt (formed s) (lent s) (s .args .number) p
-with-position s p = ap (assignedAt (formed s) (lent s) (s .args .number))
+with-position : (s : tie.Start) (p : Position) → s .args .position ≡ p → assignedAt (formed (lists s)) (means (lists s)) (s .args .number) (s .args .position) ≡ assignedAt (formed (lists s)) (means (lists s)) (s .args .number) p
+with-position s p = ap (assignedAt (formed (lists s)) (means (lists s)) (s .args .number))
 
 enum-known-position : tie.Need-enum-known-position
 enum-known-position c = search needs
@@ -51,8 +45,8 @@ returns c =
     let across : SFits w32 x = search needs in
     let up : SFits w32 y = search needs in
     c .assign .ensures
-    ∙ (λ i. assigned (formed s) (lent s) (s .args .number) (toZ-ofZ across i) (toZ-ofZ up i))
-    ∙ sym (grid-as-before (formed s) (lent s) (s .args .number) x y)
+    ∙ (λ i. assigned (formed (lists s)) (means (lists s)) (s .args .number) (toZ-ofZ across i) (toZ-ofZ up i))
+    ∙ sym (grid-as-before (formed (lists s)) (means (lists s)) (s .args .number) x y)
     ∙ sym (with-position s _ (c .before .before .position .given .1))
 
 returns-2 : tie.Need-returns-2
@@ -61,8 +55,8 @@ returns-2 c = c .assign-fix .ensures ∙ sym (with-position (c .before .before .
 returns-3 : tie.Need-returns-3
 returns-3 c =
     let s = c .before .before .before .before in
-    let said : answerOf (c .refused .result) ≡ refusedAs (formed s) (lent s) 19 = c .refused .ensures in
-    said ∙ sym (missing-is (formed s) (lent s) (s .args .number)) ∙ sym (with-position s _ (c .before .enum-told .given .1))
+    let said : answerOf (c .refused .result) ≡ refusedAs (formed (lists s)) (means (lists s)) 19 = c .refused .ensures in
+    said ∙ sym (missing-is (formed (lists s)) (means (lists s)) (s .args .number)) ∙ sym (with-position s _ (c .before .enum-told .given .1))
 
 pub assign-at-spec : {M : Type 1} → statement M
 assign-at-spec =

@@ -1,40 +1,70 @@
 -- `register::sorting::lies` hands the run of a number that is used to locating. Assumes nothing.
-use Prim.Native.Nat.{_+_, _≤_}
+use Prim.Native.Nat.{ℕ, _+_, _≤_, _<_}
 use native.Mathlib.Omega.{arith}
 use mathlib.Core.Path.{_≡_, sym, ap, subst, subst₂, _∙_}
-use Rattle.ring.specs.Grid.{vertices}
+use mathlib.Core.List.{List}
+use lib.IntN.{ℤ}
+use lib.ListN.{length}
+use Rattle.ring.specs.declared.Point.{Point}
+use Rattle.ring.specs.Columns.{points}
 use Rattle.ring.specs.Locate.{locatedOn}
-use Rattle.ring.specs.Walk.{Ready}
+use Rattle.ring.specs.Walk.{OnGrid}
+use Rattle.columns.specs.Walk.{Ready}
 use Rattle.districts.specs.Lists.{firstPlace, size, part}
+use Rattle.districts.specs.Lent.{GoodRuns}
 use Rattle.districts.proofs.Meaning.{unused-when, ring-when}
+use Rattle.districts.proofs.Lent.{cut, cut-points, part-length}
 use Rattle.register.specs.Sorting.{rests, winds, liesTo}
 use Rattle.register.specs.Standing.{Stands}
-use Rattle.districts.proofs.Lent.{cut, ready}
 use borrow.Author.Needs.{needs}
 use Rattle.register.proofs.sorting.lies.Statement.{statement}
 use Rattle.register.proofs.sorting.lies.Tie as tie
+
+-- locating may take the parts of the columns that are a district's ring
+ready : (sx sy : List ℤ) (runs : List ℕ) (r : Point) → GoodRuns sx sy runs → (d : ℕ) → d < 64 → (size runs d ≡ 0 → ⊥) → OnGrid r → Ready (part sx (firstPlace runs d) (size runs d)) (part sy (firstPlace runs d) (size runs d)) r
+ready sx sy runs r good d h k g =
+    let used : 0 < size runs d = omega arith in
+    let fits : firstPlace runs d + size runs d ≤ 2048 = good .fits d h used in
+    let across : length (part sx (firstPlace runs d) (size runs d)) ≡ size runs d = part-length sx (firstPlace runs d) (size runs d) (omega (arith, good .x-length)) in
+    let up : length (part sy (firstPlace runs d) (size runs d)) ≡ size runs d = part-length sy (firstPlace runs d) (size runs d) (omega (arith, good .y-length)) in
+    let least = good .least d h used in
+    let most = good .most d h in
+    record {
+      least = omega (arith, across, least);
+      clean = record {
+        even = across ∙ sym up;
+        most = omega (arith, across, most);
+        grid-x = good .grid-x d h used;
+        grid-y = good .grid-y d h used;
+        point = g;
+      };
+    }
 
 size-requires : tie.Need-size-requires
 size-requires c κs = search needs
 
 returns : tie.Need-returns
 returns c =
-    let start = c .before .before .before in
-    let nothing = unused-when (start .args .store .now) (firstPlace (start .args .runs .now) (start .args .d)) (size (start .args .runs .now) (start .args .d)) (sym (c .before .size .ensures .0) ∙ c .if1 .taken) in
-    (ap (λ s. rests (liesTo (start .args .r) s)) nothing, ap (λ s. winds (liesTo (start .args .r) s)) nothing)
+    let a = c .before .before .before .args in
+    let nothing = unused-when (points (a .sx .now) (a .sy .now)) (firstPlace (a .runs .now) (a .d)) (size (a .runs .now) (a .d)) (sym (c .before .size .ensures .0) ∙ c .if1 .taken) in
+    (ap (λ s. rests (liesTo (a .r) s)) nothing, ap (λ s. winds (liesTo (a .r) s)) nothing)
 
 -- the number is used
 used : (c : tie.Else1) → size (c .before .before .before .args .runs .now) (c .before .before .before .args .d) ≡ 0 → ⊥
 used c e = c .if1 .left (c .before .size .ensures .0 ∙ e)
 
+-- its run lies within the columns
+within : (c : tie.After-first-place) → c .first-place .result + c .before .before .size .result ≤ 2048
+within c =
+    let start = c .before .before .before .before in
+    let some = used (c .before) in
+    let f = c .first-place .ensures .0 in
+    let n = c .before .before .size .ensures .0 in
+    let fits = start .pre .0 .fits (start .args .d) (start .pre .1 .0) (omega (arith, some)) in
+    omega (arith, f, n, fits)
+
 first-place-requires : tie.Need-first-place-requires
 first-place-requires c κs = search needs
-
-mul-from : tie.Need-mul-from
-mul-from c = search needs
-
-mul-to : tie.Need-mul-to
-mul-to c = search needs
 
 add-to : tie.Need-add-to
 add-to c = search needs
@@ -49,43 +79,46 @@ part-locate-on-start : tie.Need-part-locate-on-start
 part-locate-on-start c = search needs
 
 part-locate-on-end : tie.Need-part-locate-on-end
-part-locate-on-end c =
-    let start = c .before .before .before .before in
-    let runs = start .args .runs .now in
-    let d = start .args .d in
-    let some = used (c .before) in
-    let f : c .first-place .result ≡ firstPlace runs d = c .first-place .ensures .0 in
-    let n : c .before .before .size .result ≡ size runs d = c .before .before .size .ensures .0 in
-    let fits : firstPlace runs d + size runs d ≤ 2048 = start .pre .0 .fits d (start .pre .1 .0) (omega arith) in
-    omega (arith, start .pre .0 .store-length)
+part-locate-on-end c = omega (arith, within c, c .before .before .before .before .pre .0 .x-length)
+
+mul-locate-on-2 : tie.Need-mul-locate-on-2
+mul-locate-on-2 c = search needs
+
+sub-locate-on-2 : tie.Need-sub-locate-on-2
+sub-locate-on-2 c = search needs
+
+part-locate-on-start-2 : tie.Need-part-locate-on-start-2
+part-locate-on-start-2 c = search needs
+
+part-locate-on-end-2 : tie.Need-part-locate-on-end-2
+part-locate-on-end-2 c = omega (arith, within (c .before), c .before .before .before .before .before .pre .0 .y-length)
 
 locate-on-requires : tie.Need-locate-on-requires
 locate-on-requires c κs =
-    let start = c .before .before .before .before .before in
-    let store = start .args .store .now in
-    let runs = start .args .runs .now in
-    let f = c .before .first-place .ensures .0 in
-    let n = c .before .before .before .size .ensures .0 in
-    let at = c .before .first-place .result in
-    let many = c .before .before .before .size .result in
-    subst (λ xs. Ready xs many (start .args .r)) (sym (cut store at many))
-    (subst₂ (λ f n. Ready (part store f n) n (start .args .r)) (sym f) (sym n)
-    (ready store runs (start .args .r) (start .pre .0) (start .args .d) (start .pre .1 .0) (used (c .before .before)) (start .pre .1 .1)))
+    let place = c .before .before in
+    let many = place .before .before in
+    let start = many .before .before in
+    let a = start .args in
+    subst₂ (λ xs ys. Ready xs ys (a .r)) (sym (cut (a .sx .now) (place .first-place .result) (many .size .result))) (sym (cut (a .sy .now) (place .first-place .result) (many .size .result)))
+    (subst₂ (λ f n. Ready (part (a .sx .now) f n) (part (a .sy .now) f n) (a .r)) (sym (place .first-place .ensures .0)) (sym (many .size .ensures .0))
+    (ready (a .sx .now) (a .sy .now) (a .runs .now) (a .r) (start .pre .0) (a .d) (start .pre .1 .0) (used (place .before)) (start .pre .1 .1)))
 
 lying-requires : tie.Need-lying-requires
 lying-requires c κs = search needs
 
 returns-2 : tie.Need-returns-2
 returns-2 c =
-    let start = c .before .before .before .before .before .before .before in
-    let store = start .args .store .now in
-    let runs = start .args .runs .now in
-    let r = start .args .r in
-    let f = c .before .before .before .first-place .ensures .0 in
-    let n = c .before .before .before .before .before .size .ensures .0 in
-    let place = c .before .locate-on .ensures ∙ ap (λ xs. locatedOn (vertices xs) r) (cut store (c .before .before .before .first-place .result) (c .before .before .before .before .before .size .result) ∙ (λ i. part store (f i) (n i))) in
-    let its-ring = ring-when store (firstPlace runs (start .args .d)) (size runs (start .args .d)) (used (c .before .before .before .before)) in
-    subst (Stands (c .lying .result)) (place ∙ sym (ap (liesTo r) its-ring)) (c .lying .ensures)
+    let found = c .before in
+    let place = found .before .before .before in
+    let many = place .before .before in
+    let a = many .before .before .args in
+    let store = points (a .sx .now) (a .sy .now) in
+    let runs = a .runs .now in
+    let f = place .first-place .ensures .0 in
+    let n = many .size .ensures .0 in
+    let at = found .locate-on .ensures ∙ ap (λ P. locatedOn P (a .r)) (cut-points (a .sx .now) (a .sy .now) (place .first-place .result) (many .size .result) ∙ (λ i. part store (f i) (n i))) in
+    let its-ring = ring-when store (firstPlace runs (a .d)) (size runs (a .d)) (used (place .before)) in
+    subst (Stands (c .lying .result)) (at ∙ sym (ap (liesTo (a .r)) its-ring)) (c .lying .ensures)
 
 pub lies-spec : {M : Type 1} → statement M
 lies-spec =
@@ -94,13 +127,15 @@ lies-spec =
     size-requires
     returns
     first-place-requires
-    mul-from
-    mul-to
     add-to
     mul-locate-on
     sub-locate-on
     part-locate-on-start
     part-locate-on-end
+    mul-locate-on-2
+    sub-locate-on-2
+    part-locate-on-start-2
+    part-locate-on-end-2
     locate-on-requires
     lying-requires
     returns-2)

@@ -9,6 +9,7 @@ use mathlib.Core.Logic.{inl, inr}
 use lib.IntN.{ℤ}
 use borrow.Author.Needs.{needs}
 use Rattle.ring.specs.declared.Point.{Point}
+use Rattle.ring.specs.Columns.{points}
 use Rattle.ring.specs.Locate.{Place}
 use Rattle.districts.specs.Lists.{district}
 use Rattle.register.specs.Sorting.{liesTo}
@@ -18,14 +19,14 @@ use Rattle.register.proofs.sorting.sort.Statement.{statement}
 use Rattle.register.proofs.sorting.sort.Tie as tie
 
 -- where r lies to a number
-abbrev lies : List ℤ → List ℕ → Point → ℕ → Place
-lies store runs r d = liesTo r (district store runs d)
+abbrev lies : List ℤ → List ℤ → List ℕ → Point → ℕ → Place
+lies sx sy runs r d = liesTo r (district (points sx sy) runs d)
 
 abbrev Inv-loop : tie.InvT-loop
-Inv-loop store runs r seen₀ d₀ seen d = Sorts (lies store runs r) d seen
+Inv-loop sx sy runs r seen₀ d₀ seen d = Sorts (lies sx sy runs r) d seen
 
 abbrev μ-loop : tie.MeasureT-loop
-μ-loop store runs r seen₀ d₀ seen d = 64 - d
+μ-loop sx sy runs r seen₀ d₀ seen d = 64 - d
 
 loop-holds : tie.Need-loop-holds Inv-loop μ-loop
 loop-holds c = sorts-none _ _ refl refl
@@ -41,7 +42,7 @@ returns c =
     let seen = c .before .before .before in
     let turn = seen .before .before in
     let a = turn .before .before .args in
-    let place = lies (a .store .now) (a .runs .now) (a .r) in
+    let place = lies (a .sx .now) (a .sy .now) (a .runs .now) (a .r) in
     let met = subst (λ s. Stands s (place (turn .loop .d))) (c .before .touch .given .1) (seen .lies .ensures) in
     sorts-border place (turn .loop .d) (turn .loop .seen) _ (seen .before .loop-test .taken) (turn .loop .inv) met
 
@@ -65,7 +66,7 @@ loop-again c =
     let seen = c .before in
     let turn = seen .before .before in
     let a = turn .before .before .args in
-    let place = lies (a .store .now) (a .runs .now) (a .r) in
+    let place = lies (a .sx .now) (a .sy .now) (a .runs .now) (a .r) in
     let d = turn .loop .d in
     let s = turn .loop .seen in
     elim (c .match .came) [
@@ -80,7 +81,7 @@ returns-2 : tie.Need-returns-2 Inv-loop μ-loop
 returns-2 c =
     let turn = c .before .before in
     let a = turn .before .before .args in
-    c .class .ensures ∙ sorts-all (lies (a .store .now) (a .runs .now) (a .r)) (turn .loop .d) (turn .loop .seen) (c .before .loop-test .left) (turn .loop .inv)
+    c .class .ensures ∙ sorts-all (lies (a .sx .now) (a .sy .now) (a .runs .now) (a .r)) (turn .loop .d) (turn .loop .seen) (c .before .loop-test .left) (turn .loop .inv)
 
 pub sort-spec : {M : Type 1} → statement M
 sort-spec =

@@ -1,12 +1,11 @@
--- `room::pieces::copy_ring` writes a district's ring once round. Assumes nothing.
-use Prim.Native.Nat.{_+_, _-_, _*_, _≤_}
+-- `room::pieces::copy_ring` writes the parts of the two columns that are a district's ring. Assumes nothing.
 use native.Mathlib.Omega.{arith}
 use mathlib.Core.Path.{ap, _∙_}
-use lib.ListN.{length, take, drop}
+use Rattle.ring.specs.Columns.{points}
 use Rattle.districts.specs.Lists.{part}
 use Rattle.districts.specs.Lent.{written}
-use Rattle.districts.proofs.Lent.{cut, part-length}
-use Rattle.room.proofs.Written.{copied}
+use Rattle.districts.proofs.Lent.{cut-points}
+use Rattle.room.specs.Writing.{numbersOf}
 use borrow.Author.Needs.{needs}
 use Rattle.room.proofs.pieces.copy_ring.Statement.{statement}
 use Rattle.room.proofs.pieces.copy_ring.Tie as tie
@@ -17,29 +16,38 @@ size-requires c κs = search needs
 first-place-requires : tie.Need-first-place-requires
 first-place-requires c κs = search needs
 
-mul-from : tie.Need-mul-from
-mul-from c = search needs
-
-mul-many : tie.Need-mul-many
-mul-many c = search needs
-
 add-end : tie.Need-add-end
 add-end c = search needs
 
-mul-write-run : tie.Need-mul-write-run
-mul-write-run c = search needs
+mul-interleave : tie.Need-mul-interleave
+mul-interleave c = search needs
 
-sub-write-run : tie.Need-sub-write-run
-sub-write-run c = search needs
+sub-interleave : tie.Need-sub-interleave
+sub-interleave c = search needs
 
-part-write-run-start : tie.Need-part-write-run-start
-part-write-run-start c = search needs
+part-interleave-start : tie.Need-part-interleave-start
+part-interleave-start c = search needs
 
-part-write-run-end : tie.Need-part-write-run-end
-part-write-run-end c = search needs
+part-interleave-end : tie.Need-part-interleave-end
+part-interleave-end c = search needs
 
-write-run-requires : tie.Need-write-run-requires
-write-run-requires c κs = search needs
+mul-interleave-2 : tie.Need-mul-interleave-2
+mul-interleave-2 c = search needs
+
+sub-interleave-2 : tie.Need-sub-interleave-2
+sub-interleave-2 c = search needs
+
+part-interleave-start-2 : tie.Need-part-interleave-start-2
+part-interleave-start-2 c = search needs
+
+part-interleave-end-2 : tie.Need-part-interleave-end-2
+part-interleave-end-2 c = search needs
+
+interleave-requires : tie.Need-interleave-requires
+interleave-requires c κs = search needs
+
+mul-result : tie.Need-mul-result
+mul-result c = search needs
 
 same-length : tie.Need-same-length
 same-length c = search needs
@@ -47,16 +55,14 @@ same-length c = search needs
 returns : tie.Need-returns
 returns c =
     let done = c .before in
-    let place = done .before .before .before in
+    let place = done .before .before .before .before in
     let many = place .before in
-    let s = many .before .before in
-    let store = s .args .store .now in
-    let f = place .first-place .result in
-    let n = many .size .result in
-    let fits : f + n + (f + n) ≤ length store = omega (arith, place .first-place .ensures .0, many .size .ensures .0, s .pre .0 .1, s .pre .1) in (
-      omega (arith, many .size .ensures .0),
-      copied (take (2 * f + 2 * n - 2 * f) (drop (2 * f) store)) _ _ n (ap length (cut store f n) ∙ part-length store f n fits) (done .write-run .ensures)
-          ∙ ap (λ xs. written xs (s .args .to .now)) (cut store f n ∙ (λ t. part store (place .first-place .ensures .0 t) (many .size .ensures .0 t))),
+    let a = many .before .before .args in
+    let f = place .first-place .ensures .0 in
+    let n = many .size .ensures .0 in (
+      omega (arith, n),
+      done .interleave .ensures
+          ∙ ap (λ P. written (numbersOf P) (a .to .now)) (cut-points (a .sx .now) (a .sy .now) (place .first-place .result) (many .size .result) ∙ (λ t. part (points (a .sx .now) (a .sy .now)) (f t) (n t))),
     )
 
 pub copy-ring-spec : {M : Type 1} → statement M
@@ -65,13 +71,16 @@ copy-ring-spec =
     (tie.spec
     size-requires
     first-place-requires
-    mul-from
-    mul-many
     add-end
-    mul-write-run
-    sub-write-run
-    part-write-run-start
-    part-write-run-end
-    write-run-requires
+    mul-interleave
+    sub-interleave
+    part-interleave-start
+    part-interleave-end
+    mul-interleave-2
+    sub-interleave-2
+    part-interleave-start-2
+    part-interleave-end-2
+    interleave-requires
+    mul-result
     same-length
     returns)

@@ -22,11 +22,11 @@ enum-known-front c = search needs
 
 outline-requires : tie.Need-outline-requires
 outline-requires c κs =
-    let read = c .before .before .before .before .before .before .before .before in
-    let decoded = read .decode .ensures in
+    let front = c .before .before .before .before .before .before .before .before in
+    let read = front .before .before in
     let long : length (read .decode .last .1 .0) ≡ 4096 = search needs in
-    let n = c .before .before .before .before .before .before .front .given .0 .0 in
-    let fits = outline-fits (start read .args .bytes .now) (read .decode .last .1 .0) (read .decode .result .taken) n (sym (ap (λ q. frontOf q (read .decode .result .taken) (read .decode .last .1 .0)) (c .before .before .before .before .before .before .front .given .1)) ∙ decoded .said) in
+    let n = front .front .given .0 .0 in
+    let fits = outline-fits (start read .args .bytes .now) (read .decode .last .1 .0) (read .decode .result .taken) n (sym (ap (λ q. frontOf q (read .decode .result .taken) (read .decode .last .1 .0)) (front .front .given .1)) ∙ read .decode .ensures .said) in
     omega (arith, long, fits)
 
 enum-known-front-2 : tie.Need-enum-known-front-2
@@ -34,11 +34,11 @@ enum-known-front-2 c = search needs
 
 split-requires : tie.Need-split-requires
 split-requires c κs =
-    let read = c .before .before .before .before .before .before .before .before in
-    let decoded = read .decode .ensures in
+    let front = c .before .before .before .before .before .before .before .before in
+    let read = front .before .before in
     let long : length (read .decode .last .1 .0) ≡ 4096 = search needs in
-    let k = c .before .before .before .before .before .before .front2 .given .0 .1 .1 .1 .0 in
-    let fits = path-fits (start read .args .bytes .now) (read .decode .last .1 .0) (read .decode .result .taken) _ _ _ k (sym (ap (λ q. frontOf q (read .decode .result .taken) (read .decode .last .1 .0)) (c .before .before .before .before .before .before .front2 .given .1)) ∙ decoded .said) in
+    let n = front .front2 .given .0 .1 .1 .1 .0 in
+    let fits = path-fits (start read .args .bytes .now) (read .decode .last .1 .0) (read .decode .result .taken) _ _ _ n (sym (ap (λ q. frontOf q (read .decode .result .taken) (read .decode .last .1 .0)) (front .front2 .given .1)) ∙ read .decode .ensures .said) in
     omega (arith, long, fits)
 
 enum-known-front-3 : tie.Need-enum-known-front-3
@@ -68,30 +68,22 @@ same-length-2 c = search needs
 same-length-3 : tie.Need-same-length-3
 same-length-3 c = search needs
 
-returns : tie.Need-returns
-unfolding talliedBy
-returns c =
-    let called = c .before .before .before .before in
-    let front = called .before .before .before .before .before .before .before in
-    let read = front .before .before in
-    advanced (read .decode .result) _ _ _ _ _ _ _ _ (read .decode .ensures) (ap (λ q. frontOf q (read .decode .result .taken) (read .decode .last .1 .0)) (front .front .given .1)) refl (ap (answered outline) (called .outline .ensures .answer (start read .args .tally))) refl (called .outline .ensures .left)
-
 same-length-4 : tie.Need-same-length-4
 same-length-4 c = search needs
 
 same-length-5 : tie.Need-same-length-5
 same-length-5 c = search needs
 
+returns : tie.Need-returns
+unfolding talliedBy
+returns c =
+    let called = c .before .before .before .before .before .before in
+    let front = called .before .before .before .before .before .before .before .before .before in
+    let read = front .before .before in
+    advanced (read .decode .result) _ _ _ _ _ _ _ _ (read .decode .ensures) (ap (λ q. frontOf q (read .decode .result .taken) (read .decode .last .1 .0)) (front .front .given .1)) refl (ap (answered outline) (called .outline .ensures .answer (start read .args .tally))) refl (called .outline .ensures .left)
+
 same-length-6 : tie.Need-same-length-6
 same-length-6 c = search needs
-
-returns-2 : tie.Need-returns-2
-unfolding talliedBy
-returns-2 c =
-    let called = c .before .before .before in
-    let front = called .before .before .before .before .before .before .before in
-    let read = front .before .before in
-    advanced (read .decode .result) _ _ _ _ _ _ _ _ (read .decode .ensures) (ap (λ q. frontOf q (read .decode .result .taken) (read .decode .last .1 .0)) (front .front2 .given .1)) refl (ap (answered split) (called .split .ensures .answer (start read .args .tally))) refl (called .split .ensures .left)
 
 same-length-7 : tie.Need-same-length-7
 same-length-7 c = search needs
@@ -102,16 +94,16 @@ same-length-8 c = search needs
 same-length-9 : tie.Need-same-length-9
 same-length-9 c = search needs
 
-returns-3 : tie.Need-returns-3
-unfolding talliedBy
-returns-3 c =
-    let called = c .before .before .before in
-    let front = called .before .before .before .before .before in
-    let read = front .before .before in
-    advanced (read .decode .result) _ _ _ _ _ _ _ _ (read .decode .ensures) (ap (λ q. frontOf q (read .decode .result .taken) (read .decode .last .1 .0)) (front .front3 .given .1)) refl (ap (answered merge) (called .merge .ensures .answer (start read .args .tally))) refl (called .merge .ensures .left)
-
 same-length-10 : tie.Need-same-length-10
 same-length-10 c = search needs
+
+returns-2 : tie.Need-returns-2
+unfolding talliedBy
+returns-2 c =
+    let called = c .before .before .before .before in
+    let front = called .before .before .before .before .before .before .before .before .before in
+    let read = front .before .before in
+    advanced (read .decode .result) _ _ _ _ _ _ _ _ (read .decode .ensures) (ap (λ q. frontOf q (read .decode .result .taken) (read .decode .last .1 .0)) (front .front2 .given .1)) refl (ap (answered split) (called .split .ensures .answer (start read .args .tally))) refl (called .split .ensures .left)
 
 same-length-11 : tie.Need-same-length-11
 same-length-11 c = search needs
@@ -119,10 +111,42 @@ same-length-11 c = search needs
 same-length-12 : tie.Need-same-length-12
 same-length-12 c = search needs
 
+same-length-13 : tie.Need-same-length-13
+same-length-13 c = search needs
+
+same-length-14 : tie.Need-same-length-14
+same-length-14 c = search needs
+
+same-length-15 : tie.Need-same-length-15
+same-length-15 c = search needs
+
+returns-3 : tie.Need-returns-3
+unfolding talliedBy
+returns-3 c =
+    let called = c .before .before .before .before in
+    let front = called .before .before .before .before .before .before .before in
+    let read = front .before .before in
+    advanced (read .decode .result) _ _ _ _ _ _ _ _ (read .decode .ensures) (ap (λ q. frontOf q (read .decode .result .taken) (read .decode .last .1 .0)) (front .front3 .given .1)) refl (ap (answered merge) (called .merge .ensures .answer (start read .args .tally))) refl (called .merge .ensures .left)
+
+same-length-16 : tie.Need-same-length-16
+same-length-16 c = search needs
+
+same-length-17 : tie.Need-same-length-17
+same-length-17 c = search needs
+
+same-length-18 : tie.Need-same-length-18
+same-length-18 c = search needs
+
+same-length-19 : tie.Need-same-length-19
+same-length-19 c = search needs
+
+same-length-20 : tie.Need-same-length-20
+same-length-20 c = search needs
+
 returns-4 : tie.Need-returns-4
 unfolding talliedBy
 returns-4 c =
-    let front = c .before .before .before .before .before in
+    let front = c .before .before .before .before .before .before .before in
     let read = front .before .before in
     advanced (read .decode .result) _ _ _ _ _ _ _ _ (read .decode .ensures) (ap (λ q. frontOf q (read .decode .result .taken) (read .decode .last .1 .0)) (front .front4 .given .1)) (c .report .ensures .taken) (c .report .ensures .told) (c .report .ensures .tally) refl
 
@@ -154,18 +178,26 @@ advance-spec =
     same-length
     same-length-2
     same-length-3
-    returns
     same-length-4
     same-length-5
+    returns
     same-length-6
-    returns-2
     same-length-7
     same-length-8
     same-length-9
-    returns-3
     same-length-10
+    returns-2
     same-length-11
     same-length-12
+    same-length-13
+    same-length-14
+    same-length-15
+    returns-3
+    same-length-16
+    same-length-17
+    same-length-18
+    same-length-19
+    same-length-20
     returns-4
     returns-5
     returns-6)

@@ -16,8 +16,13 @@ same-length c = search needs
 same-length-2 : tie.Need-same-length-2
 same-length-2 c = search needs
 
+same-length-3 : tie.Need-same-length-3
+same-length-3 c = search needs
+
 returns : tie.Need-returns
-returns c = let called = c .before .before .before .before in merging-by (called .merge .result) _ _ _ _ _ _ _ _ (called .merge .ensures) (c .changed .ensures)
+returns c = let called = c .before .before .before .before .before in merging-by (called .merge .result) _ _ _ _ _ _ _ _ (called .merge .ensures) (c .changed .ensures)
 
 pub merge-spec : {M : Type 1} → statement M
-merge-spec = tie.close (tie.spec merge-requires changed-requires same-length same-length-2 returns)
+merge-spec =
+    tie.close
+    (tie.spec merge-requires changed-requires same-length same-length-2 same-length-3 returns)

@@ -32,10 +32,16 @@ same-length-2 c = search needs
 same-length-3 : tie.Need-same-length-3
 same-length-3 c = search needs
 
+same-length-4 : tie.Need-same-length-4
+same-length-4 c = search needs
+
+same-length-5 : tie.Need-same-length-5
+same-length-5 c = search needs
+
 returns : tie.Need-returns
 returns c =
-    let called = c .before .before .before .before .before in
-    let a = called .before .before .before .before .before .before .args in
+    let called = c .before .before .before .before .before .before .before in
+    let a = called .before .before .before .before .before .before .before .before .args in
     founding-by (called .found .result) _ (a .list .now) (2 * a .n) _ _ (called .found .ensures) (c .founded .ensures)
 
 pub outline-spec : {M : Type 1} → statement M
@@ -51,4 +57,6 @@ outline-spec =
     same-length
     same-length-2
     same-length-3
+    same-length-4
+    same-length-5
     returns)

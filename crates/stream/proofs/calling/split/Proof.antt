@@ -29,10 +29,13 @@ same-length c = search needs
 same-length-2 : tie.Need-same-length-2
 same-length-2 c = search needs
 
+same-length-3 : tie.Need-same-length-3
+same-length-3 c = search needs
+
 returns : tie.Need-returns
 returns c =
-    let called = c .before .before .before .before in
-    let a = called .before .before .before .before .before .args in
+    let called = c .before .before .before .before .before in
+    let a = called .before .before .before .before .before .before .args in
     splitting-by (called .split .result) _ (a .d) (a .i) (a .j) (a .list .now) (2 * a .k) _ _ (called .split .ensures) (c .changed .ensures)
 
 pub split-spec : {M : Type 1} → statement M
@@ -47,4 +50,5 @@ split-spec =
     changed-requires
     same-length
     same-length-2
+    same-length-3
     returns)

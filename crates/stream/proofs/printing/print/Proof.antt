@@ -2,6 +2,7 @@
 use mathlib.Core.Path.{_≡_, refl}
 use lib.ListN.{length}
 use borrow.Author.Needs.{needs}
+use Rattle.districts.specs.Lent.{lent}
 use Rattle.stream.specs.Desks.{deskOf}
 use Rattle.stream.specs.Printing.{Printed}
 use Rattle.stream.proofs.Steps.{remaining, falls}
@@ -10,37 +11,42 @@ use Rattle.stream.proofs.printing.print.Statement.{statement}
 use Rattle.stream.proofs.printing.print.Tie as tie
 
 abbrev Inv-loop : tie.InvT-loop
-Inv-loop bytes coordinates₀ outline₀ store₀ runs₀ to₀ number p₀ coordinates outline store runs to p =
-    Printed bytes (deskOf (record { outline = outline₀; store = store₀; runs = runs₀ }) (p₀ .tally)) number coordinates₀ to₀ p (record { outline = outline; store = store; runs = runs }) coordinates to
-    × (length to ≡ length to₀) × (length outline ≡ length outline₀) × (length store ≡ length store₀) × (length runs ≡ length runs₀)
+Inv-loop bytes coordinates₀ ox₀ oy₀ sx₀ sy₀ runs₀ to₀ number p₀ coordinates ox oy sx sy runs to p =
+    Printed bytes (deskOf (lent ox₀ oy₀ sx₀ sy₀ runs₀) (p₀ .tally)) number coordinates₀ to₀ p (lent ox oy sx sy runs) coordinates to
+    × (length to ≡ length to₀) × (length ox ≡ length ox₀) × (length oy ≡ length oy₀) × (length sx ≡ length sx₀) × (length sy ≡ length sy₀) × (length runs ≡ length runs₀)
 
 abbrev μ-loop : tie.MeasureT-loop
-μ-loop bytes coordinates₀ outline₀ store₀ runs₀ to₀ number p₀ coordinates outline store runs to p = remaining (length bytes) (p .at) (p .going)
+μ-loop bytes coordinates₀ ox₀ oy₀ sx₀ sy₀ runs₀ to₀ number p₀ coordinates ox oy sx sy runs to p = remaining (length bytes) (p .at) (p .going)
 
 loop-holds : tie.Need-loop-holds Inv-loop μ-loop
-loop-holds c =
-    let start = c .before .before .before in
-    (printed-none _ _ _ _ _ _ (start .pre .0), refl, refl, refl, refl)
+loop-holds c = let start = c .before .before .before in (printed-none _ _ _ _ _ _ (start .pre .0), refl, refl, refl, refl, refl, refl)
 
 print-record-requires : tie.Need-print-record-requires Inv-loop μ-loop
 print-record-requires c κs =
-    let held = c .before .before .before .before .before .before .loop .inv in
-    let start = c .before .before .before .before .before .before .before .before .before .before in
-    ready _ _ _ _ _ _ _ _ _ (held .0) (held .1) (start .pre .1)
+    let turn = c .before .before .before .before .before .before .before .before in
+    let start = turn .before .before .before .before in
+    ready _ _ _ _ _ _ _ _ _ (turn .loop .inv .0) (turn .loop .inv .1) (start .pre .1)
 
 loop-less : tie.Need-loop-less Inv-loop μ-loop
 loop-less c =
-    let called = c .before .before .before .before .before .before in
-    let turn = called .before .before .before .before .before .before in
+    let called = c .before .before .before .before .before .before .before .before in
+    let turn = called .before .before .before .before .before .before .before .before in
     let held = turn .before .loop .inv in
     let turned = called .print-record .ensures in
     falls _ _ _ _ _ (turn .loop-test .taken) (printed-more _ _ _ _ _ _ _ _ _ (held .0) _ _ _ _ (held .1) turned .there) (onward _ _ _ _ _ _ _ _ _ (held .0) _ _ _ _ turned) (stayed _ _ _ _ _ _ _ _ _ (held .0) _ _ _ _ turned)
 
 loop-again : tie.Need-loop-again Inv-loop μ-loop
 loop-again c =
-    let called = c .before .before .before .before .before .before in
-    let held = called .before .before .before .before .before .before .before .loop .inv in
-    (printed-more _ _ _ _ _ _ _ _ _ (held .0) _ _ _ _ (held .1) (called .print-record .ensures), search (needs, held .1), search (needs, held .2), search (needs, held .3), search (needs, held .4))
+    let called = c .before .before .before .before .before .before .before .before in
+    let held = called .before .before .before .before .before .before .before .before .before .loop .inv in (
+      printed-more _ _ _ _ _ _ _ _ _ (held .0) _ _ _ _ (held .1) (called .print-record .ensures),
+      search (needs, held .1),
+      search (needs, held .2),
+      search (needs, held .3),
+      search (needs, held .4),
+      search (needs, held .5),
+      search (needs, held .6),
+    )
 
 same-length : tie.Need-same-length Inv-loop μ-loop
 same-length c = c .before .loop .inv .2
@@ -52,7 +58,13 @@ same-length-3 : tie.Need-same-length-3 Inv-loop μ-loop
 same-length-3 c = c .before .loop .inv .4
 
 same-length-4 : tie.Need-same-length-4 Inv-loop μ-loop
-same-length-4 c = c .before .loop .inv .1
+same-length-4 c = c .before .loop .inv .5
+
+same-length-5 : tie.Need-same-length-5 Inv-loop μ-loop
+same-length-5 c = c .before .loop .inv .6
+
+same-length-6 : tie.Need-same-length-6 Inv-loop μ-loop
+same-length-6 c = c .before .loop .inv .1
 
 returns : tie.Need-returns Inv-loop μ-loop
 returns c = (c .before .loop .inv .0, c .loop-test .left)
@@ -71,4 +83,6 @@ print-spec =
     same-length-2
     same-length-3
     same-length-4
+    same-length-5
+    same-length-6
     returns)

@@ -14,11 +14,11 @@ use Rattle.stream.proofs.printing.print_record.Statement.{statement}
 use Rattle.stream.proofs.printing.print_record.Tie as tie
 
 abbrev start : tie.After-advance → tie.Start
-start called = called .before .before .before .before .before .before .before .before .before .before
+start called = called .before .before .before .before .before .before .before .before .before .before .before .before
 
 -- there was room for a line
 roomy : (called : tie.After-advance) → room ≤ length (start called .args .to .now) - start called .args .p .filled
-roomy called = omega (arith, called .before .before .before .before .before .before .if1 .left)
+roomy called = omega (arith, called .before .before .before .before .before .before .before .before .if1 .left)
 
 sub-if1 : tie.Need-sub-if1
 sub-if1 c = search needs
@@ -46,9 +46,9 @@ advance-requires c κs = search needs
 enum-known-told : tie.Need-enum-known-told
 enum-known-told c = search needs
 
-add-t30 : tie.Need-add-t30
-add-t30 c =
-    let called = c .before .before .before .before .before .before .before .before .before in
+add-t36 : tie.Need-add-t36
+add-t36 c =
+    let called = c .before .before .before .before .before .before .before .before .before .before .before in
     let a = start called .args in
     let fits = taken-there (a .bytes .now) (a .p .at) (called .advance .result) _ _ _ _ _ (start called .pre .there) (seen-from (a .bytes .now) (a .p .at) _ _ _ _ _ _ (called .advance .ensures)) in
     record { fits = omega (arith, fits, start called .pre .long) }
@@ -56,10 +56,10 @@ add-t30 c =
 line-at-requires : tie.Need-line-at-requires
 line-at-requires c κs = search needs
 
-add-t34 : tie.Need-add-t34
-add-t34 c =
+add-t40 : tie.Need-add-t40
+add-t40 c =
     let told = c .before .before .before .before .before .before .before in
-    let called = told .before .before .before .before .before .before .before in
+    let called = told .before .before .before .before .before .before .before .before .before in
     let a = start called .args in
     let by = seen-from (a .bytes .now) (a .p .at) _ _ _ _ _ _ (called .advance .ensures) in
     record { fits = next-countable (a .bytes .now) (a .p) _ _ (called .advance .result) _ _ by _ _ (ap toldOf (told .told .given .1)) (start called .pre .countable) }
@@ -88,31 +88,23 @@ same-length-3 c = search needs
 same-length-4 : tie.Need-same-length-4
 same-length-4 c = search needs
 
-returns-2 : tie.Need-returns-2
-returns-2 c =
-    let line = c .before .before .before in
-    let told = line .before .before .before .before in
-    let called = told .before .before .before .before .before .before .before in
-    let a = start called .args in
-    let by = seen-from (a .bytes .now) (a .p .at) _ _ _ _ _ _ (called .advance .ensures) in
-    goes-on (a .bytes .now) (a .p) _ _ (called .advance .result) _ _ by _ _ _ _ _ (start called .pre .form) (omega (arith, called .before .before .before .before .before .before .if1 .left, start called .pre .fits)) (ap toldOf (told .told .given .1)) refl refl refl refl (line .line-at .ensures)
-
 same-length-5 : tie.Need-same-length-5
 same-length-5 c = search needs
 
 same-length-6 : tie.Need-same-length-6
 same-length-6 c = search needs
 
-same-length-7 : tie.Need-same-length-7
-same-length-7 c = search needs
-
-returns-3 : tie.Need-returns-3
-returns-3 c =
-    let called = c .before .before .before .before .before .before .before .before in
+returns-2 : tie.Need-returns-2
+returns-2 c =
+    let line = c .before .before .before in
+    let told = line .before .before .before .before in
+    let called = told .before .before .before .before .before .before .before .before .before in
     let a = start called .args in
     let by = seen-from (a .bytes .now) (a .p .at) _ _ _ _ _ _ (called .advance .ensures) in
-    let there = tells-more (a .bytes .now) (a .p) _ _ (called .advance .result) _ _ by (ap toldOf (c .before .enum-told .given .1)) in
-    ends-with (a .bytes .now) (a .p) _ _ (called .advance .result) _ _ by more More (c .ended2 .result) (a .to .now) there (λ l. l) refl (c .ended2 .ensures) (roomy called, there)
+    goes-on (a .bytes .now) (a .p) _ _ (called .advance .result) _ _ by _ _ _ _ _ (start called .pre .form) (omega (arith, called .before .before .before .before .before .before .before .before .if1 .left, start called .pre .fits)) (ap toldOf (told .told .given .1)) refl refl refl refl (line .line-at .ensures)
+
+same-length-7 : tie.Need-same-length-7
+same-length-7 c = search needs
 
 same-length-8 : tie.Need-same-length-8
 same-length-8 c = search needs
@@ -123,9 +115,35 @@ same-length-9 c = search needs
 same-length-10 : tie.Need-same-length-10
 same-length-10 c = search needs
 
+same-length-11 : tie.Need-same-length-11
+same-length-11 c = search needs
+
+returns-3 : tie.Need-returns-3
+returns-3 c =
+    let called = c .before .before .before .before .before .before .before .before .before .before in
+    let a = start called .args in
+    let by = seen-from (a .bytes .now) (a .p .at) _ _ _ _ _ _ (called .advance .ensures) in
+    let there = tells-more (a .bytes .now) (a .p) _ _ (called .advance .result) _ _ by (ap toldOf (c .before .enum-told .given .1)) in
+    ends-with (a .bytes .now) (a .p) _ _ (called .advance .result) _ _ by more More (c .ended2 .result) (a .to .now) there (λ l. l) refl (c .ended2 .ensures) (roomy called, there)
+
+same-length-12 : tie.Need-same-length-12
+same-length-12 c = search needs
+
+same-length-13 : tie.Need-same-length-13
+same-length-13 c = search needs
+
+same-length-14 : tie.Need-same-length-14
+same-length-14 c = search needs
+
+same-length-15 : tie.Need-same-length-15
+same-length-15 c = search needs
+
+same-length-16 : tie.Need-same-length-16
+same-length-16 c = search needs
+
 returns-4 : tie.Need-returns-4
 returns-4 c =
-    let called = c .before .before .before .before .before .before .before .before in
+    let called = c .before .before .before .before .before .before .before .before .before .before in
     let a = start called .args in
     let by = seen-from (a .bytes .now) (a .p .at) _ _ _ _ _ _ (called .advance .ensures) in
     let there = tells-broken (a .bytes .now) (a .p) _ _ (called .advance .result) _ _ by (ap toldOf (c .before .enum-told2 .given .1)) in
@@ -143,9 +161,9 @@ print-record-spec =
     part-advance-end
     advance-requires
     enum-known-told
-    add-t30
+    add-t36
     line-at-requires
-    add-t34
+    add-t40
     enum-told
     ended-requires-2
     enum-told-2
@@ -154,12 +172,18 @@ print-record-spec =
     same-length-2
     same-length-3
     same-length-4
-    returns-2
     same-length-5
     same-length-6
+    returns-2
     same-length-7
-    returns-3
     same-length-8
     same-length-9
     same-length-10
+    same-length-11
+    returns-3
+    same-length-12
+    same-length-13
+    same-length-14
+    same-length-15
+    same-length-16
     returns-4)

@@ -5,10 +5,10 @@ use Rattle.test_lives.proofs.compare.all_rings_agree.Statement.{stateme
 use Rattle.test_lives.proofs.compare.all_rings_agree.Tie as tie
 
 abbrev Inv-loop : tie.InvT-loop
-Inv-loop store runs rows good₀ d₀ good d = 0 ≤ d
+Inv-loop sx sy runs rows good₀ d₀ good d = 0 ≤ d
 
 abbrev μ-loop : tie.MeasureT-loop
-μ-loop store runs rows good₀ d₀ good d = 64 - d
+μ-loop sx sy runs rows good₀ d₀ good d = 64 - d
 
 loop-holds : tie.Need-loop-holds Inv-loop μ-loop
 loop-holds c = search needs

@@ -1,5 +1,6 @@
 -- `lives::step` meets its contract: every list is as long after the change as before it. Assumes nothing.
 use borrow.Author.Needs.{needs}
+use borrow.Author.Needs.{needs}
 use Rattle.test_lives.proofs.lives.step.Statement.{statement}
 use Rattle.test_lives.proofs.lives.step.Tie as tie
 
@@ -16,7 +17,7 @@ change-requires : tie.Need-change-requires
 change-requires c κs = search needs
 
 report-requires : tie.Need-report-requires
-report-requires c κs = search (needs, c .before .before .before .before .before .before .before .before .before .before .change .kept, c .before .before .before .before .before .before .before .before .before .before .before .before .before .before .before .before .before .before .before .before .before .before .before .before .before .before .pre)
+report-requires c κs = search (needs, c .before .before .before .before .before .before .before .before .before .before .before .before .before .before .change .kept, c .before .before .before .before .before .before .before .before .before .before .before .before .before .before .before .before .before .before .before .before .before .before .before .before .before .before .before .before .before .before .before .before .pre)
 
 same-length : tie.Need-same-length
 same-length c = search needs
@@ -31,7 +32,13 @@ same-length-4 : tie.Need-same-length-4
 same-length-4 c = search needs
 
 same-length-5 : tie.Need-same-length-5
-same-length-5 c = search (needs, c .before .before .before .before .before .before .before .before .before .before .before .before .before .before .before .before .before .before .before .before .before .before .before .before .before .before .make .kept)
+same-length-5 c = search needs
+
+same-length-6 : tie.Need-same-length-6
+same-length-6 c = search needs
+
+same-length-7 : tie.Need-same-length-7
+same-length-7 c = search (needs, c .before .before .before .before .before .before .before .before .before .before .before .before .before .before .before .before .before .before .before .before .before .before .before .before .before .before .before .before .before .before .before .before .before .before .make .kept)
 
 returns : tie.Need-returns
 returns c = search needs
@@ -50,4 +57,6 @@ step-spec =
     same-length-3
     same-length-4
     same-length-5
+    same-length-6
+    same-length-7
     returns)

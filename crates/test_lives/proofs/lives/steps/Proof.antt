@@ -5,15 +5,14 @@ use mathlib.Core.Path.{_≡_}
 use lib.ListN.{length}
 use Prim.Native.Nat.{_-_}
 use borrow.Author.Needs.{needs}
--- `lives::steps` meets its contract. The invariant: the lists keep their lengths. The measure is how many are left. Assumes nothing.
 use Rattle.test_lives.proofs.lives.steps.Statement.{statement}
 use Rattle.test_lives.proofs.lives.steps.Tie as tie
 
 abbrev Inv-loop : tie.InvT-loop
-Inv-loop outline₀ store₀ runs₀ rows₀ space₀ life times seed₀ score₀ t₀ outline store runs rows space seed score t = (length outline ≡ length outline₀) × (length store ≡ length store₀) × (length runs ≡ 129) × (length rows ≡ allRows) × (length space ≡ room)
+Inv-loop ox₀ oy₀ sx₀ sy₀ runs₀ rows₀ space₀ life times seed₀ score₀ t₀ ox oy sx sy runs rows space seed score t = (length ox ≡ length ox₀) × (length oy ≡ length oy₀) × (length sx ≡ length sx₀) × (length sy ≡ length sy₀) × (length runs ≡ 129) × (length rows ≡ allRows) × (length space ≡ room)
 
 abbrev μ-loop : tie.MeasureT-loop
-μ-loop outline₀ store₀ runs₀ rows₀ space₀ life times seed₀ score₀ t₀ outline store runs rows space seed score t = times - t
+μ-loop ox₀ oy₀ sx₀ sy₀ runs₀ rows₀ space₀ life times seed₀ score₀ t₀ ox oy sx sy runs rows space seed score t = times - t
 
 loop-holds : tie.Need-loop-holds Inv-loop μ-loop
 loop-holds c = search needs
@@ -48,6 +47,12 @@ same-length-4 c = search needs
 same-length-5 : tie.Need-same-length-5 Inv-loop μ-loop
 same-length-5 c = search needs
 
+same-length-6 : tie.Need-same-length-6 Inv-loop μ-loop
+same-length-6 c = search needs
+
+same-length-7 : tie.Need-same-length-7 Inv-loop μ-loop
+same-length-7 c = search needs
+
 returns : tie.Need-returns Inv-loop μ-loop
 returns c = search needs
 
@@ -68,4 +73,6 @@ steps-spec =
     same-length-3
     same-length-4
     same-length-5
+    same-length-6
+    same-length-7
     returns)

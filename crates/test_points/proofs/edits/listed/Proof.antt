@@ -17,7 +17,13 @@ slice-aggregate-perform-all-3 : tie.Need-slice-aggregate-perform-all-3
 slice-aggregate-perform-all-3 c = search needs
 
 slice-aggregate-perform-all-4 : tie.Need-slice-aggregate-perform-all-4
-slice-aggregate-perform-all-4 c = sym (length-replicate 270402 (pos 0))
+slice-aggregate-perform-all-4 c = search needs
+
+slice-aggregate-perform-all-5 : tie.Need-slice-aggregate-perform-all-5
+slice-aggregate-perform-all-5 c = search needs
+
+slice-aggregate-perform-all-6 : tie.Need-slice-aggregate-perform-all-6
+slice-aggregate-perform-all-6 c = sym (length-replicate 270402 (pos 0))
 
 perform-all-requires : tie.Need-perform-all-requires
 perform-all-requires c κs = (length-replicate {A = ℕ} 129 0, length-replicate 270402 (pos 0))
@@ -33,5 +39,7 @@ listed-spec =
     slice-aggregate-perform-all-2
     slice-aggregate-perform-all-3
     slice-aggregate-perform-all-4
+    slice-aggregate-perform-all-5
+    slice-aggregate-perform-all-6
     perform-all-requires
     returns)

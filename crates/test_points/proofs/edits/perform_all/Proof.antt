@@ -8,10 +8,10 @@ use Rattle.test_points.proofs.edits.perform_all.Statement.{statement}
 use Rattle.test_points.proofs.edits.perform_all.Tie as tie
 
 abbrev Inv-loop : tie.InvT-loop
-Inv-loop outline₀ store₀ runs₀ rows₀ name first end points score₀ k₀ outline store runs rows score k = (length outline ≡ length outline₀) × (length store ≡ length store₀) × (length runs ≡ 129) × (length rows ≡ allRows)
+Inv-loop ox₀ oy₀ sx₀ sy₀ runs₀ rows₀ name first end points score₀ k₀ ox oy sx sy runs rows score k = (length ox ≡ length ox₀) × (length oy ≡ length oy₀) × (length sx ≡ length sx₀) × (length sy ≡ length sy₀) × (length runs ≡ 129) × (length rows ≡ allRows)
 
 abbrev μ-loop : tie.MeasureT-loop
-μ-loop outline₀ store₀ runs₀ rows₀ name first end points score₀ k₀ outline store runs rows score k = end - k
+μ-loop ox₀ oy₀ sx₀ sy₀ runs₀ rows₀ name first end points score₀ k₀ ox oy sx sy runs rows score k = end - k
 
 new-requires : tie.Need-new-requires Inv-loop μ-loop
 new-requires c κs = search needs
@@ -35,13 +35,13 @@ with-requires : tie.Need-with-requires Inv-loop μ-loop
 with-requires c κs = search needs
 
 add-k : tie.Need-add-k Inv-loop μ-loop
-add-k c = search (needs, c .before .before .before .before .before .before .before .before .before .before .before .before .before .before .loop-test, c .before .before .before .before .before .before .before .before .before .before .before .before .before .before .before .before .before .before .before .fits)
+add-k c = search (needs, c .before .before .before .before .before .before .before .before .before .before .before .before .before .before .before .before .before .before .loop-test, c .before .before .before .before .before .before .before .before .before .before .before .before .before .before .before .before .before .before .before .before .before .before .before .fits)
 
 loop-less : tie.Need-loop-less Inv-loop μ-loop
-loop-less c = search (needs, c .before .before .before .before .before .before .before .before .before .before .before .before .before .before .loop-test)
+loop-less c = search (needs, c .before .before .before .before .before .before .before .before .before .before .before .before .before .before .before .before .before .before .loop-test)
 
 loop-again : tie.Need-loop-again Inv-loop μ-loop
-loop-again c = search (needs, c .before .before .before .before .before .before .before .perform .kept, c .before .before .before .before .before .before .before .before .before .before .before .before .before .before .before .loop)
+loop-again c = search (needs, c .before .before .before .before .before .before .before .before .before .perform .kept, c .before .before .before .before .before .before .before .before .before .before .before .before .before .before .before .before .before .before .before .loop)
 
 same-length : tie.Need-same-length Inv-loop μ-loop
 same-length c = search needs
@@ -54,6 +54,12 @@ same-length-3 c = search needs
 
 same-length-4 : tie.Need-same-length-4 Inv-loop μ-loop
 same-length-4 c = search needs
+
+same-length-5 : tie.Need-same-length-5 Inv-loop μ-loop
+same-length-5 c = search needs
+
+same-length-6 : tie.Need-same-length-6 Inv-loop μ-loop
+same-length-6 c = search needs
 
 returns : tie.Need-returns Inv-loop μ-loop
 returns c = search needs
@@ -78,4 +84,6 @@ perform-all-spec =
     same-length-2
     same-length-3
     same-length-4
+    same-length-5
+    same-length-6
     returns)
