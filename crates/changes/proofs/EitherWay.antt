@@ -1,6 +1,6 @@
 -- Of a register held in columns and one held in pairs of the same numbers: a split and a merge answer the same and leave the same register. Assumes nothing.
 use Prim.Native.Nat.{ℕ}
-use mathlib.Core.Path.{_≡_, sym, ap, transport, _∙_}
+use mathlib.Core.Path.{_≡_, sym, transport, _∙_}
 use mathlib.Core.Bool.{Bool}
 use mathlib.Core.List.{List}
 use lib.IntN.{ℤ}

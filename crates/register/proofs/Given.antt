@@ -2,7 +2,7 @@
 use Prim.Native.Nat.{ℕ}
 use mathlib.Core.Path.{_≡_, sym, ap, _∙_}
 use mathlib.Core.Bool.{Bool, true, false, _||_}
-use mathlib.Core.List.{List, []}
+use mathlib.Core.List.{[]}
 use lib.IntN.{ℤ}
 use Rattle.refusals.specs.Verdicts.{accept, refuse, verdict}
 use Rattle.refusals.proofs.Verdicts.{stops-at, passes, passed-all, stops-early, passes-first}

@@ -8,7 +8,7 @@ use native.Mathlib.Omega.{arith}
 use mathlib.Core.Path.{_≡_, refl, sym, ap, subst, transport, _∙_}
 use mathlib.Core.List.{List, [], _∷_, _++_, append-assoc, append-nil, reverse, reverse-cons}
 use lib.IntN.{ℤ, pos}
-use lib.ListN.{length, getD, take, drop, set, length-set, length-append, length-drop, length-reverse, drop-of-length-le, List·getD-append}
+use lib.ListN.{length, getD, take, drop, set, length-append, length-drop, length-reverse, drop-of-length-le, List·getD-append}
 use lib.Seq.{take-suc, take-all, take-at, drop-at, drop-drop, drop-cons, set-at, append-snoc, length-take-le, getD-at}
 use borrow.Rule.Slice.PartMut.{midOf, putMid}
 use Rattle.ring.specs.declared.Point.{Point}

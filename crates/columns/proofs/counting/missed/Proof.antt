@@ -11,7 +11,7 @@ use Rattle.ring.specs.Columns.{points}
 use Rattle.ring.specs.Walk.{Aside, north, south, east, west}
 use Rattle.ring.proofs.OnGrid.{held}
 use Rattle.ring.proofs.Columns.{point-at}
-use Rattle.columns.specs.Walk.{Clean, Beside, over, under}
+use Rattle.columns.specs.Walk.{Beside, over, under}
 use borrow.Author.Needs.{needs}
 use Rattle.columns.proofs.counting.missed.Statement.{statement}
 use Rattle.columns.proofs.counting.missed.Tie as tie

@@ -1,6 +1,6 @@
 -- `room::pieces::write_back` writes the path's points from the last to the first. The invariant: the first t of them are
 -- written, and the columns are as long as they came. Assumes nothing.
-use Prim.Native.Nat.{_+_, _-_, _<_}
+use Prim.Native.Nat.{_-_, _<_}
 use native.Mathlib.Omega.{arith}
 use mathlib.Core.Path.{_≡_, refl, sym, ap, _∙_}
 use mathlib.Core.List.{reverse}
