@@ -95,7 +95,7 @@ fn counted(runs: &[u32], all: usize) -> bool
         & ((all <= ring::MOST_VERTICES) & ((1 <= n) | (all == 0)))
 }
 
-// Whether the first n of both columns are on the grid. Both in one loop: two would cost a small register more than both coordinates at once did.
+// Whether the first n of both columns are on the grid. One loop for both: with two a small register takes longer.
 fn on_grid(xs: &[i32], ys: &[i32], n: usize) -> bool
     requires { ⌜ (n ≤ length (now xs)) × (n ≤ length (now ys)) ⌝ }
     ensures { λ r. ⌜ r ≡ within (now (xs .entry)) (now (ys .entry)) n ⌝ }
