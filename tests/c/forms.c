@@ -86,12 +86,9 @@ static uint32_t on_edge(const int32_t *ring, size_t n, size_t i, int32_t x, int3
     return told(values, LAUNCHRAMP_EDGE, i, last);
 }
 
-uint32_t paper_locate(const int32_t *ring, size_t ring_length, int32_t x, int32_t y, uint64_t *values)
+/* In line always, so that paper_locate comes to the same instructions as if this stood there; left to gcc it comes to others. */
+__attribute__((always_inline)) static inline uint32_t paper(const int32_t *ring, size_t n, int32_t x, int32_t y, uint64_t *values)
 {
-    uint64_t refused = refusal(ring, ring_length, x, y);
-    if (refused != 0)
-        return told(values, LAUNCHRAMP_REFUSED, refused, 0);
-    size_t n = ring_length / 2;
     int32_t px = ring[0], py = ring[1];
     int64_t turns = 0;
     if (px == x && py == y)
@@ -120,6 +117,19 @@ uint32_t paper_locate(const int32_t *ring, size_t ring_length, int32_t x, int32_
         py = qy;
     }
     return off(values, turns);
+}
+
+uint32_t paper_on_ring(const int32_t *ring, size_t n, int32_t x, int32_t y, uint64_t *values)
+{
+    return paper(ring, n, x, y, values);
+}
+
+uint32_t paper_locate(const int32_t *ring, size_t ring_length, int32_t x, int32_t y, uint64_t *values)
+{
+    uint64_t refused = refusal(ring, ring_length, x, y);
+    if (refused != 0)
+        return told(values, LAUNCHRAMP_REFUSED, refused, 0);
+    return paper(ring, ring_length / 2, x, y, values);
 }
 
 #define BY_DETERMINANT 2

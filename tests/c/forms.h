@@ -11,6 +11,9 @@
  * for. The highest place is looked for from the ring's end backward: a vertex where there is one, otherwise an edge. */
 uint32_t paper_locate(const int32_t *ring, size_t ring_length, int32_t x, int32_t y, uint64_t *values);
 
+/* The same on a ring of n vertices, with nothing tested. */
+uint32_t paper_on_ring(const int32_t *ring, size_t n, int32_t x, int32_t y, uint64_t *values);
+
 /* The table form: the quadrant of each vertex by comparisons without a branch, the quarter turns of each edge from a table of four by four
  * with a mark where the determinant decides. It goes round to the end unless it meets a vertex, and then looks for the highest one from the
  * ring's end backward. */

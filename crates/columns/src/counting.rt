@@ -62,7 +62,7 @@ fn stretch(xs: &[i32], ys: &[i32], r: exact::Arrow, i: usize, k: usize, c: Count
 }
 
 // Whether the k + 1 numbers of a column from place i on lie all above or all below v. It reads them all, with no branch on what it reads.
-fn beside(column: &[i32], v: i32, i: usize, k: usize) -> bool
+pub fn beside(column: &[i32], v: i32, i: usize, k: usize) -> bool
     requires { ⌜ (i + k < length (now column)) × (length (now column) ≤ 2048) ⌝ }
     ensures { λ m. ⌜ (m ≡ true → Beside (now (column .entry)) v i k) ⌝ }
 {

@@ -1,8 +1,10 @@
 // Where a point of the grid lies against a ring whose coordinates stand in two columns, all x and all y. The walk is that of `ring` along a list
 // x, y, x, y, .., with loops of its own, since one loop for both, by a stride, is slower for both. What both do with a vertex is in `ring`.
 mod counting;
+mod passing;
 mod places;
 
+pub use passing::missing;
 use ring::Located;
 use ring::Point;
 ghost use mathlib.Core.Path.{_≡_};
@@ -12,6 +14,13 @@ ghost use Rattle.ring.specs.Columns.{points};
 ghost use Rattle.ring.specs.Rings.{at};
 ghost use Rattle.ring.specs.Locate.{locatedOn, placeOf};
 ghost use Rattle.columns.specs.Walk.{Ready};
+
+// Which of a point's lines misses all vertices of a ring.
+pub enum Miss {
+    // The row, or the column.
+    By(bool),
+    Neither,
+}
 
 pub fn vertex(xs: &[i32], ys: &[i32], i: usize) -> Point
     requires { ⌜ (i < length (now xs)) × (length (now xs) ≡ length (now ys)) ⌝ }

@@ -1,17 +1,21 @@
--- A walk from place 0 that hops over a run that starts where it stands comes to the end if the runs are packed, and only then. Assumes nothing.
-use Prim.Native.Nat.{ℕ, _+_, _≤_, _<_}
+-- The runs are packed exactly if one starts at place 0 and each ends where one starts or at the end of all: from run to run one comes to the end then. Assumes nothing.
+use Prim.Native.Nat.{ℕ, zero, suc, _+_, _-_, _≤_, _<_}
 use native.Mathlib.Decide.{decLt, ℕ-discrete}
 use native.Mathlib.Omega.{arith}
 use mathlib.Core.Path.{_≡_, refl, sym, ap, _∙_}
-use mathlib.Core.Bool.{true, false}
+use mathlib.Core.Bool.{Bool, true, false, _&&_, true≢false}
 use mathlib.Core.List.{List}
 use mathlib.Core.Logic.{_⊎_, inl, inr}
+use lib.Dec.{eqb}
 use lib.ListN.{getD}
-use Rattle.districts.specs.Counts.{sumTo}
+use borrow.Author.Tests.{lt-ltb, le-ltb, ltb-true, eq-eqb, eqb-true}
+use Rattle.ring.proofs.Pick.{pick-true, pick-false}
+use Rattle.districts.specs.Counts.{allTo, sumTo}
 use Rattle.districts.specs.Lists.{firstPlace, size}
-use Rattle.districts.specs.Places.{Starts, Marked}
+use Rattle.districts.specs.Places.{Starts, Marked, met, joined}
 use Rattle.districts.specs.WellFormed.{total, packed}
-use Rattle.districts.proofs.Tests.{refuted}
+use Rattle.districts.proofs.Tests.{refuted, both-left, both-right, either, passes-left, passes-right}
+use Rattle.districts.proofs.Counting.{all-pass, all-each}
 use Rattle.districts.proofs.Sums.{sum-zero, sum-most, same-terms, some-term, put, put-same, put-other, sum-put}
 use Rattle.districts.proofs.Tiles.{Tiles, covered, covered-from, covered-to, covered-once, packed-tiles, tiles-packed}
 
@@ -115,38 +119,101 @@ module _ (f n : ℕ → ℕ) where
   -- ---- where the runs are packed
 
   module _ (t : ℕ) (same : sumTo 64 n ≡ t) (tiles : Tiles f n t) where
-    -- the run that covers a place of the walk starts there: it would overlap the run before
-    covered-starts : (place d : ℕ) → Chain f n place → d < 64 → f d ≤ place → place < f d + n d → f d ≡ place
-    covered-starts place d origin h from to = omega arith
-    covered-starts place d (hop {d = e} c s end) h from to =
-        let at = s .there in
-        elim (tiles .disjoint d e h (s .below) other (omega arith) (s .used)) [ inl l ↦ absurd (let u = s .used in omega arith) | inr l ↦ omega arith ]
-      where
-        other : d ≡ e → ⊥
-        other same = let first = ap f same in let long = ap n same in let at = s .there in omega arith
-
-    pub chain-goes-on : (place : ℕ) → Chain f n place → place < t → (d : ℕ) × Starts f n 64 place d
-    chain-goes-on place c h =
+    -- at a place that is in the midst of no run one starts
+    begins : (place : ℕ) → place < t → ((d : ℕ) → d < 64 → f d < place → place < f d + n d → ⊥) → (d : ℕ) × Starts f n 64 place d
+    begins place h midst =
         let once = covered-once f n t same tiles place h in
         let found = some-term (covered f n place) 64 (omega arith) in
         let d = found .0 in
         let from = covered-from f n place d (found .2) in
         let to = covered-to f n place d (found .2) in
-        (d, record { below = found .1; used = omega arith; there = covered-starts place d c (found .1) from to })
+        let there : f d ≡ place = elim (decLt (f d) place) [ yes l ↦ absurd (midst d (found .1) l to) | no l ↦ omega arith ] in
+        (d, record { below = found .1; used = omega arith; there = there })
 
--- ---- the walk along the table
+    first-begins : 0 < t → (d : ℕ) × Starts f n 64 0 d
+    first-begins h = begins 0 h (λ d l from to. let g : ⊥ = omega arith in g)
 
-module _ (runs starts : List ℕ) (marked : Marked runs 64 starts) (place : ℕ) (c : Chain (firstPlace runs) (size runs) place) where
-  -- no run starts where the walk stands, before the end
-  pub stops-before : total runs ≤ 2048 → place < total runs → getD starts place 0 ≡ 0 → packed runs ≡ false
-  stops-before few h held = refuted (packed runs) never
+    -- a run that covered the place behind another would overlap it
+    next-begins : (d : ℕ) → d < 64 → 0 < n d → f d + n d < t → (e : ℕ) × Starts f n 64 (f d + n d) e
+    next-begins d h u l = begins (f d + n d) l never
+      where
+        never : (e : ℕ) → e < 64 → f e < f d + n d → f d + n d < f e + n e → ⊥
+        never e k from to = elim (ℕ-discrete d e) [
+          | yes same ↦ let first = ap f same in let long = ap n same in omega arith
+          | no other ↦ elim (tiles .disjoint d e h k other u (omega arith)) [ inl m ↦ omega arith | inr m ↦ omega arith ]
+        ]
+
+-- ---- by the table
+
+module _ (runs starts : List ℕ) (few : total runs ≤ 2048) (marked : Marked runs 64 starts) where
+  abbrev meets : ℕ → Bool
+  meets place = met starts (total runs) place
+
+  -- a place where a run starts or all end
+  meets-start : (place d : ℕ) → place < total runs → Starts (firstPlace runs) (size runs) 64 place d → meets place ≡ true
+  meets-start place d h s = pick-true (lt-ltb place (total runs) h) _ _ ∙ lt-ltb 0 (getD starts place 0) (marked .none-missed place d (omega arith) s)
+
+  meets-end : (place : ℕ) → place ≡ total runs → meets place ≡ true
+  meets-end place e = pick-false (le-ltb place (total runs) (omega arith)) _ _ ∙ eq-eqb place (total runs) e
+
+  packed-met : packed runs ≡ true → (meets 0 && allTo 64 (joined runs starts (total runs))) ≡ true
+  packed-met p = λ i. first i && all-pass (joined runs starts (total runs)) 64 each i
     where
-      never : packed runs ≡ true → ⊥
-      never p =
-          let on = chain-goes-on (firstPlace runs) (size runs) (total runs) refl (packed-tiles runs p) place c h in
-          let found = marked .none-missed place (on .0) (omega arith) (on .1) in
-          omega arith
+      tiles : Tiles (firstPlace runs) (size runs) (total runs)
+      tiles = packed-tiles runs p
 
-  -- the walk has come to the end
-  pub comes-to-end : total runs ≤ place → packed runs ≡ true
-  comes-to-end h = tiles-packed runs (chain-tiles (firstPlace runs) (size runs) (total runs) refl place c h)
+      first : meets 0 ≡ true
+      first = elim (decLt 0 (total runs)) [
+        | yes some ↦ let (d, s) = first-begins (firstPlace runs) (size runs) (total runs) refl tiles some in meets-start 0 d some s
+        | no none ↦ meets-end 0 (omega arith)
+      ]
+
+      ends : (d : ℕ) → d < 64 → 0 < size runs d → meets (firstPlace runs d + size runs d) ≡ true
+      ends d h u = elim (decLt (firstPlace runs d + size runs d) (total runs)) [
+        | yes less ↦ let (e, s) = next-begins (firstPlace runs) (size runs) (total runs) refl tiles d h u less in meets-start (firstPlace runs d + size runs d) e less s
+        | no more ↦ meets-end (firstPlace runs d + size runs d) (let w = tiles .within d h u in omega arith)
+      ]
+
+      each : (d : ℕ) → d < 64 → joined runs starts (total runs) d ≡ true
+      each d h = elim (decLt 0 (size runs d)) [
+        | yes u ↦ passes-right (eqb (size runs d) 0) (ends d h u)
+        | no u ↦ passes-left (eq-eqb (size runs d) 0 (omega arith)) _
+      ]
+
+  module _ (each : (d : ℕ) → d < 64 → joined runs starts (total runs) d ≡ true) where
+    -- a place that one comes to, where a run starts or all end
+    record Stands (place : ℕ) : Type 0 where
+      come : Chain (firstPlace runs) (size runs) place
+      here : meets place ≡ true
+
+    -- over the run that starts there
+    next : (place : ℕ) → place < total runs → Stands place → (to : ℕ) × (place < to) × Stands to
+    next place less at =
+        let some : 0 < getD starts place 0 = ltb-true 0 (getD starts place 0) (sym (pick-true (lt-ltb place (total runs) less) _ _) ∙ at .here) in
+        let d = getD starts place 0 - 1 in
+        let s : Starts (firstPlace runs) (size runs) 64 place d = marked .right place d (omega arith) in
+        let used = s .used in
+        let ended : meets (firstPlace runs d + size runs d) ≡ true = elim (either (eqb (size runs d) 0) (meets (firstPlace runs d + size runs d)) (each d (s .below))) [
+          | inl z ↦ absurd (let none = eqb-true (size runs d) 0 z in let g : ⊥ = omega arith in g)
+          | inr e ↦ e
+        ] in
+        (place + size runs d, omega arith, record { come = hop (at .come) s refl; here = sym (ap (λ p. meets (p + size runs d)) (s .there)) ∙ ended })
+
+    -- to the end; k is more than what is left
+    walked : (k place : ℕ) → Stands place → total runs < place + k → packed runs ≡ true
+    walked zero place at h = let w = chain-within (firstPlace runs) (size runs) (total runs) refl place (at .come) in absurd (let g : ⊥ = omega arith in g)
+    walked (suc k) place at h = elim (decLt place (total runs)) [
+      | no end ↦ tiles-packed runs (chain-tiles (firstPlace runs) (size runs) (total runs) refl place (at .come) (omega arith))
+      | yes less ↦ let (to, far, there) = next place less at in walked k to there (omega arith)
+    ]
+
+  met-packed : (meets 0 && allTo 64 (joined runs starts (total runs))) ≡ packed runs
+  met-packed = go (meets 0 && allTo 64 (joined runs starts (total runs))) refl
+    where
+      go : (b : Bool) → (meets 0 && allTo 64 (joined runs starts (total runs))) ≡ b → b ≡ packed runs
+      go true e = sym (walked (all-each _ 64 (both-right (meets 0) _ e)) (suc (total runs)) 0 (record { come = origin; here = both-left (meets 0) _ e }) (omega arith))
+      go false e = sym (refuted (packed runs) (λ p. true≢false (sym (packed-met p) ∙ e)))
+
+  -- the two tests, of a number that is what all have together
+  pub both-packed : (all : ℕ) (first each : Bool) → all ≡ total runs → first ≡ met starts all 0 → each ≡ allTo 64 (joined runs starts all) → (first && each) ≡ packed runs
+  both-packed all first each is e f = (λ i. e i && f i) ∙ ap (λ t. met starts t 0 && allTo 64 (joined runs starts t)) is ∙ met-packed

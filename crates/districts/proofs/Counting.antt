@@ -1,10 +1,10 @@
 -- Tests and sums over the numbers below a bound: the steps that a loop takes. Assumes nothing.
 use Prim.Native.Nat.{ℕ, zero, suc, _+_, _≤_, _<_}
 use native.Mathlib.Numerals.{add-one}
-use native.Mathlib.Decide.{ℕ-discrete}
+use native.Mathlib.Decide.{decLt, ℕ-discrete}
 use native.Mathlib.Omega.{arith}
 use mathlib.Core.Path.{_≡_, refl, sym, ap, subst, _∙_}
-use mathlib.Core.Bool.{Bool, true, _&&_}
+use mathlib.Core.Bool.{Bool, true, false, _&&_}
 use Rattle.districts.proofs.Tests.{both-left, both-right}
 use Rattle.districts.specs.Counts.{allTo, sumTo}
 
@@ -68,3 +68,32 @@ term-past f (suc n) d k h l = elim (ℕ-discrete k n) [
   | yes same ↦ subst (λ (m : ℕ). sumTo d f + f m ≤ sumTo n f + f n) (sym same) (let t : sumTo d f ≤ sumTo n f = sum-grows f d n (omega arith) in omega arith)
   | no other ↦ let t : sumTo d f + f k ≤ sumTo n f = term-past f n d k h (omega arith) in omega arith
 ]
+
+-- ---- a loop that adds up terms and stops once it has them all: s is the sum of the first d
+
+-- as long as s is less there is a term left
+pub term-left : (f : ℕ → ℕ) (n d s : ℕ) → s ≡ sumTo d f → d ≤ n → s < sumTo n f → d < n
+term-left f n d s e h l = elim (decLt d n) [
+  | yes less ↦ less
+  | no more ↦
+      let last : d ≡ n = omega arith in
+      let all : sumTo d f ≡ sumTo n f = ap (λ m. sumTo m f) last in
+      absurd (let g : ⊥ = omega arith in g)
+]
+
+-- after that the terms left are 0
+pub rest-none : (f : ℕ → ℕ) (n d s : ℕ) → s ≡ sumTo d f → sumTo n f ≤ s → (k : ℕ) → d ≤ k → k < n → f k ≡ 0
+rest-none f n d s e h k l m = let past : sumTo d f + f k ≤ sumTo n f = term-past f n d k l m in omega arith
+
+-- and a test that passes at them passes at all if it did before
+pub all-rest : (p : ℕ → Bool) (n d : ℕ) → d ≤ n → ((k : ℕ) → d ≤ k → k < n → p k ≡ true) → allTo d p ≡ allTo n p
+unfolding allTo
+all-rest p zero d h rest = ap (λ m. allTo m p) (let e : d ≡ 0 = omega arith in e)
+all-rest p (suc n) d h rest = elim (ℕ-discrete d (suc n)) [
+  | yes same ↦ ap (λ m. allTo m p) same
+  | no other ↦ all-rest p n d (omega arith) (λ k l m. rest k l (omega arith)) ∙ sym ((λ i. allTo n p && rest n (omega arith) (omega arith) i) ∙ kept (allTo n p))
+]
+  where
+    kept : (b : Bool) → (b && true) ≡ b
+    kept true = refl
+    kept false = refl

@@ -1,11 +1,11 @@
 -- What is seen of the numbers below d when a report is sorted, and that it is where the report belongs: at the start, after one number
 -- more, at a border, and when all numbers were seen. Assumes nothing.
-use Prim.Native.Nat.{ℕ, suc, _+_, _≤_, _<_}
-use native.Mathlib.Nat.{zero-add}
+use Prim.Native.Nat.{ℕ, zero, suc, _+_, _-_, _≤_, _<_}
+use native.Mathlib.Nat.{zero-add, add-zero}
 use native.Mathlib.Decide.{ℕ-discrete}
 use native.Mathlib.Numerals.{add-one}
 use native.Mathlib.Omega.{arith}
-use mathlib.Core.Path.{_≡_, sym, ap, subst, _∙_}
+use mathlib.Core.Path.{_≡_, refl, sym, ap, subst, _∙_}
 use mathlib.Core.Bool.{Bool, true, false, _&&_}
 use lib.Dec.{leb}
 use borrow.Author.Tests.{lt-ltb}
@@ -57,6 +57,10 @@ module _ (place : ℕ → Place) where
     noted = subst (λ (k : ℕ). Noted about 64 k (t .lowest)) (sym (add-one d)) (subst (Noted about 64 (suc d)) (ap (λ b. pick (b && leb 64 (s .lowest)) d (s .lowest)) (e .1) ∙ sym g) (noted-more about 64 d (s .lowest) h (l .noted)));
   }
 
+  -- one that it does not wind about either
+  pub sorts-same : (d : ℕ) (s t : Seen) → d < 64 → Sorts d s → (rests (place d) ≡ false) × (winds (place d) ≡ false) → t ≡ s → Sorts (d + 1) t
+  sorts-same d s t h l e same = sorts-more false d s t h l e (ap (λ s. s .many) same ∙ sym (add-zero (s .many))) (ap (λ s. s .lowest) same)
+
   -- a border, after numbers that have none, is the lowest
   pub sorts-border : (d : ℕ) (s : Seen) (t : Touch) → d < 64 → Sorts d s → place d ≡ atRing t → border d t ≡ sortedBy place
   sorts-border d s t h l e =
@@ -65,10 +69,16 @@ module _ (place : ℕ → Place) where
       let low = lowest about 64 0 in
       sym (ap (λ b. sorted b (restsAt (place b)) m low) first ∙ pick-true (lt-ltb d 64 h) _ _ ∙ ap (λ p. border d (restsAt p)) e)
 
-  pub sorts-all : (d : ℕ) (s : Seen) → 64 ≤ d → Sorts d s → byCount (s .many) (s .lowest) ≡ sortedBy place
-  sorts-all d s h l =
-      let all : d ≡ 64 = omega (arith, l .le) in
+  -- numbers that it does not lie to
+  pub sorts-rest : (d : ℕ) (s : Seen) → Sorts d s → ((e : ℕ) → d ≤ e → e < 64 → (rests (place e) ≡ false) × (winds (place e) ≡ false)) → Sorts 64 s
+  sorts-rest d s l none = go (64 - d) d l (let e : d + (64 - d) ≡ 64 = omega (arith, l .le) in e) (λ e h. none e h)
+    where
+      go : (k d : ℕ) → Sorts d s → d + k ≡ 64 → ((e : ℕ) → d ≤ e → e < 64 → (rests (place e) ≡ false) × (winds (place e) ≡ false)) → Sorts 64 s
+      go zero d l e none = subst (λ (m : ℕ). Sorts m s) (let same : d ≡ 64 = omega arith in same) l
+      go (suc k) d l e none = go k (d + 1) (sorts-same d s s (omega arith) l (none d (omega arith) (omega arith)) refl) (omega arith) (λ m h. none m (omega arith))
+
+  pub sorts-all : (s : Seen) → Sorts 64 s → byCount (s .many) (s .lowest) ≡ sortedBy place
+  sorts-all s l =
       let clear : lowest on 64 0 ≡ 64 = lowest-none on 64 0 (λ j g k. l .clear j (omega arith)) ∙ zero-add 64 in
-      let many : sumTo 64 (λ k. count (about k)) ≡ s .many = ap (λ m. sumTo m (λ k. count (about k))) (sym all) ∙ sym (l .many) in
-      let low : lowest about 64 0 ≡ s .lowest = noted-all about 64 (s .lowest) (subst (λ (m : ℕ). Noted about 64 m (s .lowest)) all (l .noted)) in
-      sym (λ i. sorted (clear i) (restsAt (place (clear i))) (many i) (low i))
+      let low : lowest about 64 0 ≡ s .lowest = noted-all about 64 (s .lowest) (l .noted) in
+      sym (λ i. sorted (clear i) (restsAt (place (clear i))) (sym (l .many) i) (low i))

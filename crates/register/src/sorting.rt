@@ -1,4 +1,5 @@
 // Assigning a report: every district in turn, the parts of the store's columns that are its run handed to locating.
+use columns::Miss;
 use districts::Assigned;
 use districts::Class;
 use districts::NUMBERS;
@@ -16,9 +17,10 @@ ghost use lib.Dec.{leb};
 ghost use lib.IntN.{pos};
 ghost use Rattle.exact.specs.Sign.{eqZ};
 ghost use Rattle.ring.specs.Choices.{pick};
-ghost use Rattle.ring.specs.Locate.{off, placeOf};
+ghost use Rattle.ring.specs.Locate.{off, locatedOn, placeOf};
 ghost use Rattle.ring.specs.Walk.{OnGrid};
 ghost use Rattle.ring.specs.Columns.{points};
+ghost use Rattle.columns.specs.Walk.{Ready};
 ghost use Rattle.districts.specs.Lists.{district};
 ghost use Rattle.refusals.specs.Verdicts.{verdict};
 ghost use Rattle.districts.specs.Answers.{belongs, report, answerOf};
@@ -31,6 +33,8 @@ enum Stance {
     On(Touch),
     Inside,
     Outside,
+    // Outside, as its row tells, or its column.
+    Missed(bool),
 }
 
 // The districts that a point winds about: the lowest, or NUMBERS where there is none, and how many.
@@ -65,8 +69,19 @@ fn lying(place: Located) -> Stance
     }
 }
 
+// How r lies to a ring. It is walked along only if neither of r's lines misses it; the row is asked first, or the column.
+fn lies_to_ring(xs: &[i32], ys: &[i32], r: Point, row_first: bool) -> Stance
+    requires { ⌜ Ready (now xs) (now ys) r ⌝ }
+    ensures { λ s. ⌜ Stands s (locatedOn (points (now (xs .entry)) (now (ys .entry))) r) ⌝ }
+{
+    match columns::missing(xs, ys, r, row_first) {
+        Miss::By(row) => Stance::Missed(row),
+        Miss::Neither => lying(columns::locate_on(xs, ys, r)),
+    }
+}
+
 // How r lies to district d; to an unused number it lies outside.
-fn lies(sx: &[i32], sy: &[i32], runs: &[u32], d: usize, r: Point) -> Stance
+fn lies(sx: &[i32], sy: &[i32], runs: &[u32], d: usize, r: Point, row_first: bool) -> Stance
     requires { ⌜ GoodRuns (now sx) (now sy) (now runs) ⌝ }
     requires { ⌜ d < 64 ⌝ }
     requires { ⌜ OnGrid r ⌝ }
@@ -78,7 +93,7 @@ fn lies(sx: &[i32], sy: &[i32], runs: &[u32], d: usize, r: Point) -> Stance
     }
     let from = districts::first_place(runs, d);
     let to = from + n;
-    lying(columns::locate_on(&sx[from..to], &sy[from..to], r))
+    lies_to_ring(&sx[from..to], &sy[from..to], r, row_first)
 }
 
 impl Seen {
@@ -112,6 +127,8 @@ impl Seen {
     }
 }
 
+// Every district in turn, until all vertices were those of one: the numbers left are unused. Of two lines the one is asked first that missed the last ring that
+// was missed: rings that lie side by side are missed by the same.
 fn sort(sx: &[i32], sy: &[i32], runs: &[u32], r: Point) -> Class
     requires { ⌜ GoodRuns (now sx) (now sy) (now runs) ⌝ }
     requires { ⌜ OnGrid r ⌝ }
@@ -121,13 +138,18 @@ fn sort(sx: &[i32], sy: &[i32], runs: &[u32], r: Point) -> Class
         lowest: NUMBERS,
         many: 0,
     };
+    let mut row_first = true;
+    let all = districts::total(runs);
+    let mut past = 0;
     let mut d = 0;
-    while d < NUMBERS {
-        match lies(sx, sy, runs, d, r) {
+    while past < all {
+        match lies(sx, sy, runs, d, r, row_first) {
             Stance::On(touch) => return Class::Border(d, touch),
             Stance::Inside => seen = seen.with(d),
             Stance::Outside => {}
+            Stance::Missed(row) => row_first = row,
         }
+        past += districts::size(runs, d);
         d += 1;
     }
     seen.class()

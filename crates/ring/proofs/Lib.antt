@@ -1,4 +1,5 @@
 pub mod Pick
+pub mod Moved
 pub mod Vertices
 pub mod Columns
 pub mod OnGrid
@@ -12,6 +13,7 @@ pub mod Crossings
 pub mod Fours
 pub mod Walks
 pub mod Settled
+pub mod Missed
 pub mod Segments
 pub mod Touches
 pub mod Known

@@ -2,7 +2,9 @@
 use crate::Point;
 ghost use mathlib.Core.Path.{_≡_};
 ghost use Prim.Native.Nat.{_+_, _<_, _≤_};
+ghost use lib.IntN.{negsuc};
 ghost use lib.ListN.{length};
+ghost use lib.Signed.{ltZ};
 ghost use Rattle.ring.specs.Grid.{beyond as isBeyond, someBeyond, vertices};
 ghost use Rattle.ring.specs.Rings.{at};
 ghost use Rattle.ring.specs.Segment.{same as samePoint};
@@ -11,10 +13,24 @@ ghost use Rattle.ring.specs.Walk.{OnGrid, headOf, Clean, fourBeyond, Way
 // The largest coordinate of the grid, in millimetres; the least is its negative.
 const LIMIT: i32 = 1_000_000_000;
 
+// How far down the grid is moved to begin where an i32 begins.
+const DOWN: i32 = -1_147_483_648;
+
+// x moved down, round the end: the grid comes first, what is above it next, and what is below it last. The compiler makes one addition of both.
+fn moved(x: i32) -> i32
+    ensures { λ r. ⌜ ltZ (negsuc 147_483_647) r ≡ isBeyond x ⌝ }
+{
+    if x < -LIMIT {
+        return x + i32::MAX + (LIMIT + 1);
+    }
+    x + DOWN
+}
+
+// By one comparison: two take longer, and of a test of many coordinates they are most.
 pub fn beyond(x: i32) -> bool
     ensures { λ r. ⌜ r ≡ isBeyond x ⌝ }
 {
-    (x < -LIMIT) | (LIMIT < x)
+    DOWN + LIMIT < moved(x)
 }
 
 // Whether some number of the list is beyond the grid. It reads the whole list, with no branch on what it reads.

@@ -1,33 +1,16 @@
 -- `districts::packing::mark_all` marks one number after the other. The invariant: the numbers below d are marked, and `seen` is what they have together. Assumes nothing.
-use Prim.Native.Nat.{ℕ, _+_, _-_, _≤_, _<_}
-use native.Mathlib.Decide.{decLt}
+use Prim.Native.Nat.{_-_, _≤_, _<_}
 use native.Mathlib.Omega.{arith}
-use mathlib.Core.Path.{_≡_, refl, ap}
-use mathlib.Core.List.{List}
+use mathlib.Core.Path.{_≡_, refl}
 use lib.ListN.{length}
 use borrow.Author.Needs.{needs}
 use Rattle.districts.specs.Counts.{sumTo}
 use Rattle.districts.specs.Lists.{size}
 use Rattle.districts.specs.Places.{Marked}
-use Rattle.districts.specs.WellFormed.{total}
-use Rattle.districts.proofs.Counting.{sum-none, sum-more, term-past}
+use Rattle.districts.proofs.Counting.{sum-none, sum-more, term-left, rest-none}
 use Rattle.districts.proofs.Marks.{marked-rest}
 use Rattle.districts.proofs.packing.mark_all.Statement.{statement}
 use Rattle.districts.proofs.packing.mark_all.Tie as tie
-
--- as long as not all is seen there is a number left
-number-left : (runs : List ℕ) (seen d : ℕ) → seen ≡ sumTo d (size runs) → d ≤ 64 → seen < total runs → d < 64
-number-left runs seen d e h l = elim (decLt d 64) [
-  | yes less ↦ less
-  | no more ↦
-      let last : d ≡ 64 = omega arith in
-      let all : sumTo d (size runs) ≡ total runs = ap (λ n. sumTo n (size runs)) last in
-      absurd (let f : ⊥ = omega arith in f)
-]
-
--- once all is seen the numbers left are unused
-none-left : (runs : List ℕ) (seen d : ℕ) → seen ≡ sumTo d (size runs) → total runs ≤ seen → (e : ℕ) → d ≤ e → e < 64 → size runs e ≡ 0
-none-left runs seen d e h k l m = let past : sumTo d (size runs) + size runs k ≤ total runs = term-past (size runs) 64 d k l m in omega arith
 
 abbrev Inv-loop : tie.InvT-loop
 Inv-loop runs starts₀ all seen₀ d₀ starts seen d = (d ≤ 64) × Marked runs d starts × (length starts ≡ length starts₀) × (seen ≡ sumTo d (size runs))
@@ -41,7 +24,7 @@ loop-holds c = (search needs, c .before .before .pre .1 .1 .1, refl, sum-none _)
 left : (c : tie.In-loop Inv-loop μ-loop) → c .before .loop .d < 64
 left c =
     let s = c .before .before .before .before in
-    number-left (s .args .runs .now) (c .before .loop .seen) (c .before .loop .d) (c .before .loop .inv .3) (c .before .loop .inv .0) (omega (arith, c .loop-test .taken, s .pre .1 .0))
+    term-left (size (s .args .runs .now)) 64 (c .before .loop .d) (c .before .loop .seen) (c .before .loop .inv .3) (c .before .loop .inv .0) (omega (arith, c .loop-test .taken, s .pre .1 .0))
 
 mark-requires : tie.Need-mark-requires Inv-loop μ-loop
 mark-requires c κs =
@@ -81,7 +64,7 @@ returns : tie.Need-returns Inv-loop μ-loop
 returns c =
     let turn = c .before in
     let s = turn .before .before .before in
-    marked-rest _ _ _ (turn .loop .inv .1) (turn .loop .inv .0) (none-left (s .args .runs .now) (turn .loop .seen) (turn .loop .d) (turn .loop .inv .3) (omega (arith, c .loop-test .left, s .pre .1 .0)))
+    marked-rest _ _ _ (turn .loop .inv .1) (turn .loop .inv .0) (rest-none (size (s .args .runs .now)) 64 (turn .loop .d) (turn .loop .seen) (turn .loop .inv .3) (omega (arith, c .loop-test .left, s .pre .1 .0)))
 
 pub mark-all-spec : {M : Type 1} → statement M
 mark-all-spec =

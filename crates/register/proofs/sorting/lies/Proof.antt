@@ -1,4 +1,4 @@
--- `register::sorting::lies` hands the run of a number that is used to locating. Assumes nothing.
+-- `register::sorting::lies` hands on the run of a number that is used. Assumes nothing.
 use Prim.Native.Nat.{ℕ, _+_, _≤_, _<_}
 use native.Mathlib.Omega.{arith}
 use mathlib.Core.Path.{_≡_, sym, ap, subst, subst₂, _∙_}
@@ -69,32 +69,32 @@ first-place-requires c κs = search needs
 add-to : tie.Need-add-to
 add-to c = search needs
 
-mul-locate-on : tie.Need-mul-locate-on
-mul-locate-on c = search needs
+mul-lies-to-ring : tie.Need-mul-lies-to-ring
+mul-lies-to-ring c = search needs
 
-sub-locate-on : tie.Need-sub-locate-on
-sub-locate-on c = search needs
+sub-lies-to-ring : tie.Need-sub-lies-to-ring
+sub-lies-to-ring c = search needs
 
-part-locate-on-start : tie.Need-part-locate-on-start
-part-locate-on-start c = search needs
+part-lies-to-ring-start : tie.Need-part-lies-to-ring-start
+part-lies-to-ring-start c = search needs
 
-part-locate-on-end : tie.Need-part-locate-on-end
-part-locate-on-end c = omega (arith, within c, c .before .before .before .before .pre .0 .x-length)
+part-lies-to-ring-end : tie.Need-part-lies-to-ring-end
+part-lies-to-ring-end c = omega (arith, within c, c .before .before .before .before .pre .0 .x-length)
 
-mul-locate-on-2 : tie.Need-mul-locate-on-2
-mul-locate-on-2 c = search needs
+mul-lies-to-ring-2 : tie.Need-mul-lies-to-ring-2
+mul-lies-to-ring-2 c = search needs
 
-sub-locate-on-2 : tie.Need-sub-locate-on-2
-sub-locate-on-2 c = search needs
+sub-lies-to-ring-2 : tie.Need-sub-lies-to-ring-2
+sub-lies-to-ring-2 c = search needs
 
-part-locate-on-start-2 : tie.Need-part-locate-on-start-2
-part-locate-on-start-2 c = search needs
+part-lies-to-ring-start-2 : tie.Need-part-lies-to-ring-start-2
+part-lies-to-ring-start-2 c = search needs
 
-part-locate-on-end-2 : tie.Need-part-locate-on-end-2
-part-locate-on-end-2 c = omega (arith, within (c .before), c .before .before .before .before .before .pre .0 .y-length)
+part-lies-to-ring-end-2 : tie.Need-part-lies-to-ring-end-2
+part-lies-to-ring-end-2 c = omega (arith, within (c .before), c .before .before .before .before .before .pre .0 .y-length)
 
-locate-on-requires : tie.Need-locate-on-requires
-locate-on-requires c κs =
+lies-to-ring-requires : tie.Need-lies-to-ring-requires
+lies-to-ring-requires c κs =
     let place = c .before .before in
     let many = place .before .before in
     let start = many .before .before in
@@ -103,22 +103,18 @@ locate-on-requires c κs =
     (subst₂ (λ f n. Ready (part (a .sx .now) f n) (part (a .sy .now) f n) (a .r)) (sym (place .first-place .ensures .0)) (sym (many .size .ensures .0))
     (ready (a .sx .now) (a .sy .now) (a .runs .now) (a .r) (start .pre .0) (a .d) (start .pre .1 .0) (used (place .before)) (start .pre .1 .1)))
 
-lying-requires : tie.Need-lying-requires
-lying-requires c κs = search needs
-
 returns-2 : tie.Need-returns-2
 returns-2 c =
-    let found = c .before in
-    let place = found .before .before .before in
+    let place = c .before .before .before in
     let many = place .before .before in
     let a = many .before .before .args in
     let store = points (a .sx .now) (a .sy .now) in
     let runs = a .runs .now in
     let f = place .first-place .ensures .0 in
     let n = many .size .ensures .0 in
-    let at = found .locate-on .ensures ∙ ap (λ P. locatedOn P (a .r)) (cut-points (a .sx .now) (a .sy .now) (place .first-place .result) (many .size .result) ∙ (λ i. part store (f i) (n i))) in
+    let at = ap (λ P. locatedOn P (a .r)) (cut-points (a .sx .now) (a .sy .now) (place .first-place .result) (many .size .result) ∙ (λ i. part store (f i) (n i))) in
     let its-ring = ring-when store (firstPlace runs (a .d)) (size runs (a .d)) (used (place .before)) in
-    subst (Stands (c .lying .result)) (at ∙ sym (ap (liesTo (a .r)) its-ring)) (c .lying .ensures)
+    subst (Stands (c .lies-to-ring .result)) (at ∙ sym (ap (liesTo (a .r)) its-ring)) (c .lies-to-ring .ensures)
 
 pub lies-spec : {M : Type 1} → statement M
 lies-spec =
@@ -128,14 +124,13 @@ lies-spec =
     returns
     first-place-requires
     add-to
-    mul-locate-on
-    sub-locate-on
-    part-locate-on-start
-    part-locate-on-end
-    mul-locate-on-2
-    sub-locate-on-2
-    part-locate-on-start-2
-    part-locate-on-end-2
-    locate-on-requires
-    lying-requires
+    mul-lies-to-ring
+    sub-lies-to-ring
+    part-lies-to-ring-start
+    part-lies-to-ring-end
+    mul-lies-to-ring-2
+    sub-lies-to-ring-2
+    part-lies-to-ring-start-2
+    part-lies-to-ring-end-2
+    lies-to-ring-requires
     returns-2)
