@@ -13,6 +13,9 @@ ghost use Rattle.ring.specs.Rings.{at};
 ghost use Rattle.ring.specs.Walk.{headOf, mostTurns, Way, Sight, Counts, Aside, none, Counted};
 ghost use Rattle.columns.specs.Walk.{Clean, Ready, Beside};
 
+// As many edges are passed over at a time.
+const BLOCK: usize = 16;
+
 // The way to vertex i from the point that r leads to.
 pub fn way(xs: &[i32], ys: &[i32], r: exact::Arrow, i: usize) -> exact::Arrow
     requires { ⌜ Clean (now xs) (now ys) (headOf r) ⌝ }
@@ -105,18 +108,18 @@ fn block(xs: &[i32], ys: &[i32], r: Point, i: usize, k: usize, c: Count) -> Coun
     stretch(xs, ys, w, i, k, c)
 }
 
-// All edges of a ring, by blocks.
+// All edges of a ring: by blocks that are all of one size, which the compiler then knows wherever a block is asked, and behind them edge by edge.
 pub fn blocks(xs: &[i32], ys: &[i32], r: Point) -> Count
     requires { ⌜ Ready (now xs) (now ys) r ⌝ }
     ensures { λ c. ⌜ Counted (points (now (xs .entry)) (now (ys .entry))) r c ⌝ }
 {
     let last = xs.len() - 1;
-    let mut count = closing(xs, ys, ring::wide(r));
+    let w = ring::wide(r);
+    let mut count = closing(xs, ys, w);
     let mut i = 0;
-    while i < last {
-        let k = ring::block_size(i, last);
-        count = block(xs, ys, r, i, k, count);
-        i += k;
+    while i + BLOCK <= last {
+        count = block(xs, ys, r, i, BLOCK, count);
+        i += BLOCK;
     }
-    count
+    stretch(xs, ys, w, i, last - i, count)
 }

@@ -7,3 +7,5 @@ pub mod Unique
 pub mod Vectors
 pub mod Positions
 pub mod EitherWay
+pub mod Runs
+pub mod Listed

@@ -16,7 +16,7 @@ use Rattle.ring.proofs.Search.{lowest-none, lowest-first, Noted, noted-none, no
 use Rattle.districts.specs.Counts.{sumTo}
 use Rattle.districts.specs.Answers.{border}
 use Rattle.districts.proofs.Counting.{sum-none, sum-more}
-use Rattle.register.specs.declared.sorting.Seen.{Seen}
+use Rattle.register.specs.declared.standing.Seen.{Seen}
 use Rattle.register.specs.Sorting.{rests, winds, restsAt, byCount, sorted, sortedBy}
 
 module _ (place : ℕ → Place) where
@@ -69,12 +69,12 @@ module _ (place : ℕ → Place) where
       let low = lowest about 64 0 in
       sym (ap (λ b. sorted b (restsAt (place b)) m low) first ∙ pick-true (lt-ltb d 64 h) _ _ ∙ ap (λ p. border d (restsAt p)) e)
 
-  -- numbers that it does not lie to
-  pub sorts-rest : (d : ℕ) (s : Seen) → Sorts d s → ((e : ℕ) → d ≤ e → e < 64 → (rests (place e) ≡ false) × (winds (place e) ≡ false)) → Sorts 64 s
-  sorts-rest d s l none = go (64 - d) d l (let e : d + (64 - d) ≡ 64 = omega (arith, l .le) in e) (λ e h. none e h)
+  -- numbers that it has nothing to do with, up to n
+  pub sorts-rest : (n d : ℕ) (s : Seen) → n ≤ 64 → d ≤ n → Sorts d s → ((e : ℕ) → d ≤ e → e < n → (rests (place e) ≡ false) × (winds (place e) ≡ false)) → Sorts n s
+  sorts-rest n d s few low l none = go (n - d) d l (omega arith) none
     where
-      go : (k d : ℕ) → Sorts d s → d + k ≡ 64 → ((e : ℕ) → d ≤ e → e < 64 → (rests (place e) ≡ false) × (winds (place e) ≡ false)) → Sorts 64 s
-      go zero d l e none = subst (λ (m : ℕ). Sorts m s) (let same : d ≡ 64 = omega arith in same) l
+      go : (k d : ℕ) → Sorts d s → d + k ≡ n → ((e : ℕ) → d ≤ e → e < n → (rests (place e) ≡ false) × (winds (place e) ≡ false)) → Sorts n s
+      go zero d l e none = subst (λ (m : ℕ). Sorts m s) (let same : d ≡ n = omega arith in same) l
       go (suc k) d l e none = go k (d + 1) (sorts-same d s s (omega arith) l (none d (omega arith) (omega arith)) refl) (omega arith) (λ m h. none m (omega arith))
 
   pub sorts-all : (s : Seen) → Sorts 64 s → byCount (s .many) (s .lowest) ≡ sortedBy place

@@ -3,3 +3,4 @@ pub mod Standing
 pub mod Placing
 pub mod Founding
 pub mod Calls
+pub mod Listing

@@ -2,8 +2,8 @@
 use mathlib.Core.Path.{_≡_}
 use mathlib.Core.Bool.{true, false}
 use Rattle.ring.specs.Locate.{Place, on, touchOf}
-use Rattle.register.specs.declared.sorting.Stance.{Stance}
-use Rattle.register.specs.declared.sorting.Stance.the-variants.{On, Inside, Outside, Missed}
+use Rattle.register.specs.declared.standing.Stance.{Stance}
+use Rattle.register.specs.declared.standing.Stance.the-variants.{On, Inside, Outside, Missed}
 use Rattle.register.specs.Sorting.{rests, winds}
 
 -- how the code says of a place whether it is on a ring, and where, or is wound about

@@ -1,4 +1,7 @@
 // Assigning a report: every district in turn, the parts of the store's columns that are its run handed to locating.
+use crate::standing::Seen;
+use crate::standing::Stance;
+use crate::standing::lying;
 use columns::Miss;
 use districts::Assigned;
 use districts::Class;
@@ -6,74 +9,28 @@ use districts::NUMBERS;
 use districts::Report;
 use refusals::Refusal;
 use refusals::Verdict;
-use ring::Located;
 use ring::Point;
-use ring::Touch;
-use ring::Winding;
 ghost use mathlib.Core.Path.{_≡_};
-ghost use mathlib.Core.Bool.{Bool, not};
-ghost use Prim.Native.Nat.{_+_, _<_};
-ghost use lib.Dec.{leb};
-ghost use lib.IntN.{pos};
-ghost use Rattle.exact.specs.Sign.{eqZ};
-ghost use Rattle.ring.specs.Choices.{pick};
-ghost use Rattle.ring.specs.Locate.{off, locatedOn, placeOf};
+ghost use Prim.Native.Nat.{_<_};
+ghost use Rattle.ring.specs.Locate.{locatedOn};
 ghost use Rattle.ring.specs.Walk.{OnGrid};
 ghost use Rattle.ring.specs.Columns.{points};
 ghost use Rattle.columns.specs.Walk.{Ready};
 ghost use Rattle.districts.specs.Lists.{district};
 ghost use Rattle.refusals.specs.Verdicts.{verdict};
 ghost use Rattle.districts.specs.Answers.{belongs, report, answerOf};
-ghost use Rattle.register.specs.Sorting.{liesTo, byCount, sortedBy, pointTests, given, assigned};
+ghost use Rattle.register.specs.Sorting.{liesTo, sortedBy, pointTests, given, assigned};
 ghost use Rattle.register.specs.Standing.{Stands};
 ghost use Rattle.districts.specs.Lent.{lent, formed, means, GoodRuns};
 
-// How a point lies to one district.
-enum Stance {
-    On(Touch),
-    Inside,
-    Outside,
-    // Outside, as its row tells, or its column.
-    Missed(bool),
-}
-
-// The districts that a point winds about: the lowest, or NUMBERS where there is none, and how many.
-struct Seen {
-    lowest: usize,
-    many: usize,
-}
-
-fn turned(w: Winding) -> bool
-    ensures { λ t. ⌜ t ≡ not (eqZ (w .0) (pos 0)) ⌝ }
-{
-    (w.0 < 0) | (0 < w.0)
-}
-
-// Off a ring, by the winding number.
-fn apart(w: Winding) -> Stance
-    ensures { λ s. ⌜ ((o : Bool) → Stands s (off (w .0) o)) ⌝ }
-{
-    if turned(w) {
-        return Stance::Inside;
-    }
-    Stance::Outside
-}
-
-fn lying(place: Located) -> Stance
-    ensures { λ s. ⌜ Stands s (placeOf place) ⌝ }
-{
-    match place {
-        Located::On(touch) => Stance::On(touch),
-        Located::Off(w, _) => apart(w),
-        Located::Refused(_) => Stance::Outside,
-    }
-}
-
-// How r lies to a ring. It is walked along only if neither of r's lines misses it; the row is asked first, or the column.
-fn lies_to_ring(xs: &[i32], ys: &[i32], r: Point, row_first: bool) -> Stance
+// How r lies to a ring. Where r may be far from it, it is walked along only if neither of r's lines misses it; the row is asked first, or the column.
+fn lies_to_ring(xs: &[i32], ys: &[i32], r: Point, near: bool, row_first: bool) -> Stance
     requires { ⌜ Ready (now xs) (now ys) r ⌝ }
     ensures { λ s. ⌜ Stands s (locatedOn (points (now (xs .entry)) (now (ys .entry))) r) ⌝ }
 {
+    if near {
+        return lying(columns::locate_on(xs, ys, r));
+    }
     match columns::missing(xs, ys, r, row_first) {
         Miss::By(row) => Stance::Missed(row),
         Miss::Neither => lying(columns::locate_on(xs, ys, r)),
@@ -81,7 +38,15 @@ fn lies_to_ring(xs: &[i32], ys: &[i32], r: Point, row_first: bool) -> Stance
 }
 
 // How r lies to district d; to an unused number it lies outside.
-fn lies(sx: &[i32], sy: &[i32], runs: &[u32], d: usize, r: Point, row_first: bool) -> Stance
+pub fn lies(
+    sx: &[i32],
+    sy: &[i32],
+    runs: &[u32],
+    d: usize,
+    r: Point,
+    near: bool,
+    row_first: bool,
+) -> Stance
     requires { ⌜ GoodRuns (now sx) (now sy) (now runs) ⌝ }
     requires { ⌜ d < 64 ⌝ }
     requires { ⌜ OnGrid r ⌝ }
@@ -93,38 +58,7 @@ fn lies(sx: &[i32], sy: &[i32], runs: &[u32], d: usize, r: Point, row_first: boo
     }
     let from = districts::first_place(runs, d);
     let to = from + n;
-    lies_to_ring(&sx[from..to], &sy[from..to], r, row_first)
-}
-
-impl Seen {
-    // With one number more.
-    fn with(self, d: usize) -> Seen
-        requires { ⌜ self .many < 64 ⌝ }
-        ensures { λ s. ⌜ (s .many ≡ self .many + 1) × (s .lowest ≡ pick (leb 64 (self .lowest)) d (self .lowest)) ⌝ }
-    {
-        let many = self.many + 1;
-        if NUMBERS <= self.lowest {
-            return Seen { lowest: d, many };
-        }
-        Seen {
-            lowest: self.lowest,
-            many,
-        }
-    }
-
-    // The class of a point on no border.
-    fn class(self) -> Class
-        ensures { λ c. ⌜ belongs c ≡ byCount (self .many) (self .lowest) ⌝ }
-    {
-        let many = self.many;
-        if many == 0 {
-            return Class::None;
-        }
-        if many == 1 {
-            return Class::One(self.lowest);
-        }
-        Class::Several(self.lowest, many)
-    }
+    lies_to_ring(&sx[from..to], &sy[from..to], r, near, row_first)
 }
 
 // Every district in turn, until all vertices were those of one: the numbers left are unused. Of two lines the one is asked first that missed the last ring that
@@ -143,7 +77,7 @@ fn sort(sx: &[i32], sy: &[i32], runs: &[u32], r: Point) -> Class
     let mut past = 0;
     let mut d = 0;
     while past < all {
-        match lies(sx, sy, runs, d, r, row_first) {
+        match lies(sx, sy, runs, d, r, false, row_first) {
             Stance::On(touch) => return Class::Border(d, touch),
             Stance::Inside => seen = seen.with(d),
             Stance::Outside => {}

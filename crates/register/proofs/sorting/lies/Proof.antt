@@ -1,44 +1,19 @@
 -- `register::sorting::lies` hands on the run of a number that is used. Assumes nothing.
-use Prim.Native.Nat.{ℕ, _+_, _≤_, _<_}
+use Prim.Native.Nat.{_+_, _≤_}
 use native.Mathlib.Omega.{arith}
 use mathlib.Core.Path.{_≡_, sym, ap, subst, subst₂, _∙_}
-use mathlib.Core.List.{List}
-use lib.IntN.{ℤ}
-use lib.ListN.{length}
-use Rattle.ring.specs.declared.Point.{Point}
 use Rattle.ring.specs.Columns.{points}
 use Rattle.ring.specs.Locate.{locatedOn}
-use Rattle.ring.specs.Walk.{OnGrid}
 use Rattle.columns.specs.Walk.{Ready}
 use Rattle.districts.specs.Lists.{firstPlace, size, part}
-use Rattle.districts.specs.Lent.{GoodRuns}
-use Rattle.districts.proofs.Meaning.{unused-when, ring-when}
-use Rattle.districts.proofs.Lent.{cut, cut-points, part-length}
-use Rattle.register.specs.Sorting.{rests, winds, liesTo}
+use Rattle.districts.proofs.Meaning.{ring-when}
+use Rattle.districts.proofs.Lent.{cut, cut-points}
+use Rattle.register.specs.Sorting.{liesTo}
 use Rattle.register.specs.Standing.{Stands}
+use Rattle.register.proofs.Runs.{ready, lies-unused}
 use borrow.Author.Needs.{needs}
 use Rattle.register.proofs.sorting.lies.Statement.{statement}
 use Rattle.register.proofs.sorting.lies.Tie as tie
-
--- locating may take the parts of the columns that are a district's ring
-ready : (sx sy : List ℤ) (runs : List ℕ) (r : Point) → GoodRuns sx sy runs → (d : ℕ) → d < 64 → (size runs d ≡ 0 → ⊥) → OnGrid r → Ready (part sx (firstPlace runs d) (size runs d)) (part sy (firstPlace runs d) (size runs d)) r
-ready sx sy runs r good d h k g =
-    let used : 0 < size runs d = omega arith in
-    let fits : firstPlace runs d + size runs d ≤ 2048 = good .fits d h used in
-    let across : length (part sx (firstPlace runs d) (size runs d)) ≡ size runs d = part-length sx (firstPlace runs d) (size runs d) (omega (arith, good .x-length)) in
-    let up : length (part sy (firstPlace runs d) (size runs d)) ≡ size runs d = part-length sy (firstPlace runs d) (size runs d) (omega (arith, good .y-length)) in
-    let least = good .least d h used in
-    let most = good .most d h in
-    record {
-      least = omega (arith, across, least);
-      clean = record {
-        even = across ∙ sym up;
-        most = omega (arith, across, most);
-        grid-x = good .grid-x d h used;
-        grid-y = good .grid-y d h used;
-        point = g;
-      };
-    }
 
 size-requires : tie.Need-size-requires
 size-requires c κs = search needs
@@ -46,8 +21,7 @@ size-requires c κs = search needs
 returns : tie.Need-returns
 returns c =
     let a = c .before .before .before .args in
-    let nothing = unused-when (points (a .sx .now) (a .sy .now)) (firstPlace (a .runs .now) (a .d)) (size (a .runs .now) (a .d)) (sym (c .before .size .ensures .0) ∙ c .if1 .taken) in
-    (ap (λ s. rests (liesTo (a .r) s)) nothing, ap (λ s. winds (liesTo (a .r) s)) nothing)
+    lies-unused (a .sx .now) (a .sy .now) (a .runs .now) (a .r) (a .d) (sym (c .before .size .ensures .0) ∙ c .if1 .taken)
 
 -- the number is used
 used : (c : tie.Else1) → size (c .before .before .before .args .runs .now) (c .before .before .before .args .d) ≡ 0 → ⊥

@@ -1,36 +1,19 @@
 -- `register::sorting::sort` sees one number after the other. The invariant: what is seen of the numbers below d (`Sorts`), and `past` is what they have together. Assumes nothing.
-use Prim.Native.Nat.{ℕ, _+_, _-_, _≤_, _<_}
+use Prim.Native.Nat.{_+_, _-_, _≤_, _<_}
 use native.Mathlib.Nat.{le-refl}
 use native.Mathlib.Omega.{arith}
 use mathlib.Core.Path.{_≡_, refl, ap, subst, _∙_}
-use mathlib.Core.Bool.{true, false}
-use mathlib.Core.List.{List}
+use mathlib.Core.Bool.{true}
 use mathlib.Core.Logic.{inl, inr}
-use lib.IntN.{ℤ}
 use borrow.Author.Needs.{needs}
-use Rattle.ring.specs.declared.Point.{Point}
-use Rattle.ring.specs.Columns.{points}
-use Rattle.ring.specs.Locate.{Place}
 use Rattle.districts.specs.Counts.{sumTo}
-use Rattle.districts.specs.Lists.{firstPlace, size, district}
-use Rattle.districts.specs.WellFormed.{total}
+use Rattle.districts.specs.Lists.{size}
 use Rattle.districts.proofs.Counting.{sum-none, sum-more, term-past, term-left, rest-none}
-use Rattle.districts.proofs.Meaning.{unused-when}
-use Rattle.register.specs.Sorting.{rests, winds, liesTo}
 use Rattle.register.specs.Standing.{Stands}
+use Rattle.register.proofs.Runs.{lies, lies-unused}
 use Rattle.register.proofs.Sorts.{Sorts, sorts-none, sorts-more, sorts-same, sorts-border, sorts-rest, sorts-all}
 use Rattle.register.proofs.sorting.sort.Statement.{statement}
 use Rattle.register.proofs.sorting.sort.Tie as tie
-
--- where r lies to a number
-abbrev lies : List ℤ → List ℤ → List ℕ → Point → ℕ → Place
-lies sx sy runs r d = liesTo r (district (points sx sy) runs d)
-
--- to an unused one
-lies-unused : (sx sy : List ℤ) (runs : List ℕ) (r : Point) (d : ℕ) → size runs d ≡ 0 → (rests (lies sx sy runs r d) ≡ false) × (winds (lies sx sy runs r d) ≡ false)
-lies-unused sx sy runs r d e =
-    let nothing = unused-when (points sx sy) (firstPlace runs d) (size runs d) e in
-    (ap (λ s. rests (liesTo r s)) nothing, ap (λ s. winds (liesTo r s)) nothing)
 
 abbrev Inv-loop : tie.InvT-loop
 Inv-loop sx sy runs r seen₀ row-first₀ all past₀ d₀ seen row-first past d = Sorts (lies sx sy runs r) d seen × (past ≡ sumTo d (size runs))
@@ -124,7 +107,7 @@ returns-2 c =
     let a = turn .before .before .before .args in
     let place = lies (a .sx .now) (a .sy .now) (a .runs .now) (a .r) in
     let none = rest-none (size (a .runs .now)) 64 (turn .loop .d) (turn .loop .past) (turn .loop .inv .1) (omega (arith, c .before .loop-test .left, turn .before .total .ensures)) in
-    c .class .ensures ∙ sorts-all place (turn .loop .seen) (sorts-rest place (turn .loop .d) (turn .loop .seen) (turn .loop .inv .0) (λ e h k. lies-unused (a .sx .now) (a .sy .now) (a .runs .now) (a .r) e (none e h k)))
+    c .class .ensures ∙ sorts-all place (turn .loop .seen) (sorts-rest place 64 (turn .loop .d) (turn .loop .seen) (omega arith) (turn .loop .inv .0 .le) (turn .loop .inv .0) (λ e h k. lies-unused (a .sx .now) (a .sy .now) (a .runs .now) (a .r) e (none e h k)))
 
 pub sort-spec : {M : Type 1} → statement M
 sort-spec =

@@ -1,4 +1,4 @@
--- `register::sorting::turned` asks on both sides of 0. Assumes nothing.
+-- `register::standing::turned` asks on both sides of 0. Assumes nothing.
 use Prim.Native.Nat.{zero, suc}
 use native.Mathlib.Omega.{arith}
 use mathlib.Core.Path.{_≡_, refl, sym, _∙_}
@@ -12,8 +12,8 @@ use mir.Facts.{toZ-ofZ}
 use borrow.Author.Tests.{lt-ltb, le-ltb}
 use Rattle.exact.specs.Sign.{eqZ}
 use borrow.Author.Needs.{needs}
-use Rattle.register.proofs.sorting.turned.Statement.{statement}
-use Rattle.register.proofs.sorting.turned.Tie as tie
+use Rattle.register.proofs.standing.turned.Statement.{statement}
+use Rattle.register.proofs.standing.turned.Tie as tie
 
 other : (z : ℤ) → (ltZ z (pos 0) || ltZ (pos 0) z) ≡ not (eqZ z (pos 0))
 other (pos zero) = refl

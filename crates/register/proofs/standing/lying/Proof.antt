@@ -1,10 +1,10 @@
--- `register::sorting::lying` takes over where on the ring a point is; off it, the winding number decides. Assumes nothing.
+-- `register::standing::lying` takes over where on the ring a point is; off it, the winding number decides. Assumes nothing.
 use mathlib.Core.Path.{sym, ap, subst}
 use borrow.Author.Needs.{needs}
 use Rattle.ring.specs.Locate.{placeOf}
 use Rattle.register.specs.Standing.{Stands}
-use Rattle.register.proofs.sorting.lying.Statement.{statement}
-use Rattle.register.proofs.sorting.lying.Tie as tie
+use Rattle.register.proofs.standing.lying.Statement.{statement}
+use Rattle.register.proofs.standing.lying.Tie as tie
 
 enum-known-place : tie.Need-enum-known-place
 enum-known-place c = search needs

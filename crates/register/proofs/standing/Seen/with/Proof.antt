@@ -1,10 +1,10 @@
--- `register::sorting::Seen::with` counts one more and keeps the lowest. Assumes nothing.
+-- `register::standing::Seen::with` counts one more and keeps the lowest. Assumes nothing.
 use mathlib.Core.Path.{refl, sym}
 use borrow.Author.Tests.{le-leb, lt-leb}
 use borrow.Author.Needs.{needs}
 use Rattle.ring.proofs.Pick.{pick-true, pick-false}
-use Rattle.register.proofs.sorting.Seen.with.Statement.{statement}
-use Rattle.register.proofs.sorting.Seen.with.Tie as tie
+use Rattle.register.proofs.standing.Seen.with.Statement.{statement}
+use Rattle.register.proofs.standing.Seen.with.Tie as tie
 
 add-many : tie.Need-add-many
 add-many c = search needs

@@ -1,9 +1,9 @@
--- `register::sorting::Seen::class` goes by how many there are. Assumes nothing.
+-- `register::standing::Seen::class` goes by how many there are. Assumes nothing.
 use mathlib.Core.Path.{sym, _∙_}
 use borrow.Author.Tests.{eq-eqb, ne-eqb}
 use Rattle.ring.proofs.Pick.{pick-true, pick-false}
-use Rattle.register.proofs.sorting.Seen.class.Statement.{statement}
-use Rattle.register.proofs.sorting.Seen.class.Tie as tie
+use Rattle.register.proofs.standing.Seen.class.Statement.{statement}
+use Rattle.register.proofs.standing.Seen.class.Tie as tie
 
 returns : tie.Need-returns
 returns c = sym (pick-true (eq-eqb _ _ (c .if1 .taken)) _ _)

@@ -1,8 +1,8 @@
--- `register::sorting::apart` goes by whether the winding number is 0. Assumes nothing.
+-- `register::standing::apart` goes by whether the winding number is 0. Assumes nothing.
 use mathlib.Core.Path.{refl, sym, _∙_}
 use borrow.Author.Needs.{needs}
-use Rattle.register.proofs.sorting.apart.Statement.{statement}
-use Rattle.register.proofs.sorting.apart.Tie as tie
+use Rattle.register.proofs.standing.apart.Statement.{statement}
+use Rattle.register.proofs.standing.apart.Tie as tie
 
 turned-requires : tie.Need-turned-requires
 turned-requires c κs = search needs

@@ -1,0 +1,6 @@
+pub mod Order
+pub mod Growing
+pub mod Bits
+pub mod Bounding
+pub mod Halves
+pub mod Listing
