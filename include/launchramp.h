@@ -19,8 +19,8 @@
  *
  * An answer is its kind, which is returned, and its values. A call that is lent `values` writes all places of it, and 0 to those that are not named here:
  *
- *   LAUNCHRAMP_REFUSED   0: the refusal's number, LAUNCHRAMP_NOT_WELL_FORMED to LAUNCHRAMP_MISSING
- *   LAUNCHRAMP_DONE      0: the number of the district that was made (split), kept (merge) or founded (0); of a fix's millimetres 0
+ *   LAUNCHRAMP_REFUSED   0: the refusal's number, LAUNCHRAMP_NOT_WELL_FORMED to LAUNCHRAMP_LIST_TOO_SHORT
+ *   LAUNCHRAMP_DONE      0: the number of the district that was made (split), kept (merge) or founded (0); of a fix's millimetres and of many reports 0
  *   LAUNCHRAMP_VERTEX    0: the lowest index of a vertex that is the point; 1: the highest such index
  *   LAUNCHRAMP_EDGE      0: the lowest index of an edge that holds the point, which is no vertex; 1: the highest such index
  *   LAUNCHRAMP_OFF       0: the size of the winding number; 1: 1 where it is negative
@@ -70,6 +70,13 @@ typedef struct launchramp_register {
 #define LAUNCHRAMP_VALUE_LOWEST 3
 #define LAUNCHRAMP_VALUE_HIGHEST 4
 
+/* An answer of launchramp_assign_all: its kind, then its values. It is LAUNCHRAMP_ANSWER_LENGTH numbers with nothing between them. */
+#define LAUNCHRAMP_ANSWER_LENGTH 9
+typedef struct launchramp_answer {
+    uint64_t kind;
+    uint64_t values[LAUNCHRAMP_VALUES];
+} launchramp_answer;
+
 enum {
     LAUNCHRAMP_REFUSED = 0,
     LAUNCHRAMP_DONE = 1,
@@ -98,7 +105,8 @@ enum {
     LAUNCHRAMP_NO_ROOM = 12,        /* more than 2,048 vertices in all districts afterwards */
     LAUNCHRAMP_COUNT_FULL = 14,     /* the count to be raised is 4,294,967,295 */
     LAUNCHRAMP_NOT_FINITE = 18,     /* a NaN or an infinity in a fix */
-    LAUNCHRAMP_MISSING = 19         /* a missing position */
+    LAUNCHRAMP_MISSING = 19,        /* a missing position */
+    LAUNCHRAMP_LIST_TOO_SHORT = 28  /* a list that is lent for the result is too short for it */
 };
 
 /* Where a point lies against one ring: VERTEX, EDGE, OFF; refusals 4, 5. */
@@ -136,6 +144,17 @@ uint32_t launchramp_assign(const int32_t *ox, size_t ox_length, const int32_t *o
 uint32_t launchramp_assign_counted(const int32_t *ox, size_t ox_length, const int32_t *oy, size_t oy_length,
                                    const int32_t *sx, size_t sx_length, const int32_t *sy, size_t sy_length,
                                    const uint32_t *runs, size_t runs_length, int32_t x, int32_t y, uint32_t *counts, uint64_t *values);
+
+/* Sorts the reports at all points of a list x, y, x, y, .., each exactly as launchramp_assign does, in much less time where there are many: it tests the
+ * register only once, and makes an index of it. DONE; refusals 1, 2, 4 (an odd number of coordinates), 28 (answers_length / LAUNCHRAMP_ANSWER_LENGTH is less
+ * than points_length / 2), and then `answers` stays as it was. No points are no refusal.
+ * Each answer is LAUNCHRAMP_ANSWER_LENGTH numbers of `answers`: the kind that launchramp_assign returns, then its LAUNCHRAMP_VALUES values. Answers stand one
+ * after the other from the front, in the points' order; what stands behind them stays as it was. A point beyond the grid is refused in its own place, by
+ * LAUNCHRAMP_REFUSED and 5, and the other points are answered. */
+uint32_t launchramp_assign_all(const int32_t *ox, size_t ox_length, const int32_t *oy, size_t oy_length,
+                               const int32_t *sx, size_t sx_length, const int32_t *sy, size_t sy_length,
+                               const uint32_t *runs, size_t runs_length, const int32_t *points, size_t points_length,
+                               uint64_t *answers, size_t answers_length, uint64_t *values);
 
 /* Writes the millimetres x, y of a fix to `point`, which has two places: DONE; refusals 18, 5, and then `point` stays as it was. */
 uint32_t launchramp_millimetres(double easting, double northing, int32_t *point, uint64_t *values);
@@ -194,6 +213,14 @@ static inline uint32_t launchramp_assign_counted_in(const launchramp_register *r
                                                     uint64_t *values)
 {
     return launchramp_assign_counted(LAUNCHRAMP_LISTS(r), x, y, counts, values);
+}
+
+/* The answers are lent as so many structs. */
+static inline uint32_t launchramp_assign_all_in(const launchramp_register *r, const int32_t *points, size_t points_length,
+                                                launchramp_answer *answers, size_t answers_count, uint64_t *values)
+{
+    return launchramp_assign_all(LAUNCHRAMP_LISTS(r), points, points_length, (uint64_t *)answers,
+                                 answers_count * LAUNCHRAMP_ANSWER_LENGTH, values);
 }
 
 static inline uint32_t launchramp_assign_fix_in(const launchramp_register *r, double easting, double northing, uint64_t *values)

@@ -25,6 +25,9 @@ pub const COUNTS: usize = 67;
 /// How many values an answer has.
 const VALUES: usize = 8;
 
+/// How many numbers tell an answer to one of many reports: its kind, then its values.
+const ANSWER_LENGTH: usize = 1 + VALUES;
+
 /// The values that tell where on a district's ring a report is: VERTEX or EDGE, then the lowest and
 /// the highest index.
 pub const ON: usize = 2;
@@ -144,6 +147,24 @@ mod c {
             x: i32,
             y: i32,
             counts: *mut u32,
+            values: *mut u64,
+        ) -> u32;
+
+        pub fn launchramp_assign_all(
+            ox: *const i32,
+            ox_length: usize,
+            oy: *const i32,
+            oy_length: usize,
+            sx: *const i32,
+            sx_length: usize,
+            sy: *const i32,
+            sy_length: usize,
+            runs: *const u32,
+            runs_length: usize,
+            points: *const i32,
+            points_length: usize,
+            answers: *mut u64,
+            answers_length: usize,
             values: *mut u64,
         ) -> u32;
 
@@ -315,6 +336,38 @@ pub fn assign_counted(lists: &Lists, x: i32, y: i32, counts: &mut [u32; COUNTS])
         )
     };
     Answer { kind, values }
+}
+
+/// The answer to the whole call, and those to the points, which mean nothing where it is refused.
+pub fn assign_all(lists: &Lists, points: &[(i32, i32)]) -> (Answer, Vec<Answer>) {
+    let points: Vec<i32> = points.iter().flat_map(|&(x, y)| [x, y]).collect();
+    let mut answers = vec![0; points.len() / 2 * ANSWER_LENGTH];
+    let mut values = [0; VALUES];
+    // SAFETY: as in `assign`; `points` and `answers` go with their own lengths, and `answers` is this
+    // function's own, so no other list overlaps it.
+    let kind = unsafe {
+        lend!(
+            lists.as_ptr,
+            launchramp_assign_all,
+            points.as_ptr(),
+            points.len(),
+            answers.as_mut_ptr(),
+            answers.len(),
+            values.as_mut_ptr()
+        )
+    };
+    let each = answers.chunks_exact(ANSWER_LENGTH).map(told).collect();
+    (Answer { kind, values }, each)
+}
+
+/// An answer from the numbers that tell it.
+fn told(numbers: &[u64]) -> Answer {
+    let mut values = [0; VALUES];
+    values.copy_from_slice(&numbers[1..]);
+    Answer {
+        kind: numbers[0] as u32,
+        values,
+    }
 }
 
 /// The answer, and the point, which means nothing where the fix is refused.

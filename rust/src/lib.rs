@@ -200,6 +200,29 @@ impl Register {
         self.assign_at_counted(Position::Grid { x, y }, tally)
     }
 
+    /// Where the reports at all these points (x, y) belong, each exactly as [`Register::assign`] tells
+    /// it, in much less time where there are many: the register is tested only once, and an index of
+    /// it made. A point beyond the grid is refused in its own place, by BeyondGrid.
+    /// Refusals of the whole call: NotWellFormed, NoOutline.
+    ///
+    /// ```
+    /// use launchramp::{Class, Refusal, Register};
+    ///
+    /// let mut register = Register::new();
+    /// register.found(&[0, 0, 4, 0, 4, 4, 0, 4])?;
+    /// let answers = register.assign_all(&[(3, 1), (9, 9), (3, i32::MAX)])?;
+    /// assert_eq!(answers, [Ok(Class::One(0)), Ok(Class::None), Err(Refusal::BeyondGrid)]);
+    /// # Ok::<(), Refusal>(())
+    /// ```
+    pub fn assign_all(
+        &self,
+        points: &[(i32, i32)],
+    ) -> Result<Vec<Result<Class, Refusal>>, Refusal> {
+        let (whole, each) = calls::assign_all(&self.lists, points);
+        changed(whole)?;
+        Ok(each.into_iter().map(class).collect())
+    }
+
     /// Where a report with this position belongs.
     /// Refusals: NotWellFormed, NoOutline, Missing, NotFinite, BeyondGrid.
     pub fn assign_at(&self, position: Position) -> Result<Class, Refusal> {

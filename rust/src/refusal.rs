@@ -2,7 +2,8 @@
 use std::error::Error;
 use std::fmt;
 
-/// The refusals by their numbers, but for 13, a broken record: there are no records here.
+/// The refusals by their numbers, but for 13, a broken record, and 28, a list too short for the
+/// result: there are no records here, and every list for a result is made long enough.
 #[derive(Clone, Copy, Debug, PartialEq, Eq, Hash)]
 #[non_exhaustive]
 pub enum Refusal {

@@ -1,4 +1,5 @@
-//! The known points, the README's listing, every refusal, the tally at its limit, and known fixes.
+//! The known points, the README's listing, every refusal, the tally at its limit, known fixes, and
+//! many reports at once.
 use launchramp::{locate, millimetres, Class, Lists, Place, Position, Refusal, Register, Ring};
 use launchramp::{Tally, Touch, COLUMN_LENGTH, COUNTS, NUMBERS, RUNS_LENGTH};
 
@@ -256,6 +257,8 @@ fn before_an_outline() {
         Err(Refusal::NoOutline)
     );
     assert_eq!(tally, Tally::new());
+    assert_eq!(register.assign_all(&[]), Err(Refusal::NoOutline));
+    assert_eq!(register.assign_all(&[(BEYOND, 0)]), Err(Refusal::NoOutline));
     refuses_positions(&register, |_| Refusal::NoOutline);
 }
 
@@ -413,6 +416,9 @@ fn damaged_lists() {
             Err(Refusal::NotWellFormed)
         );
         assert_eq!(tally, Tally::new());
+        for points in [&[][..], &[(3, 1), (BEYOND, 0)]] {
+            assert_eq!(register.assign_all(points), Err(Refusal::NotWellFormed));
+        }
         refuses_positions(&register, |_| Refusal::NotWellFormed);
         for d in 0..=NUMBERS {
             register.district(d);
@@ -444,6 +450,36 @@ fn a_report_beyond_the_grid() {
         Err(Refusal::BeyondGrid)
     );
     assert_eq!(tally, Tally::new());
+}
+
+#[test]
+fn many_reports_at_once() {
+    let mut register = founded();
+    register.split(0, 0, 1, &[2, 9]).unwrap();
+    let several = Class::Several {
+        lowest: 0,
+        count: 2,
+    };
+    let (points, answers): (Vec<_>, Vec<_>) = [
+        ((2, 2), Ok(Class::One(0))),
+        ((2, 6), Ok(several)),
+        ((BEYOND, 2), Err(Refusal::BeyondGrid)),
+        ((2, 9), Ok(border(0, vertex(2, 2)))),
+        ((4, 2), Ok(border(1, edge(0, 0)))),
+        ((0, i32::MIN), Err(Refusal::BeyondGrid)),
+        ((9, 9), Ok(Class::None)),
+    ]
+    .into_iter()
+    .unzip();
+    for n in 0..=points.len() {
+        let first = register.assign_all(&points[..n]);
+        assert_eq!(first.as_deref(), Ok(&answers[..n]));
+    }
+    for (&(x, y), &answer) in points.iter().zip(&answers) {
+        assert_eq!(register.assign(x, y), answer, "({x}, {y})");
+    }
+    let again = register.assign_all(&[(2, 2); 10_000]);
+    assert_eq!(again, Ok(vec![Ok(Class::One(0)); 10_000]));
 }
 
 #[test]

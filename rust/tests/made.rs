@@ -1,5 +1,5 @@
-//! Some 120,000 made calls, to the library and to plain Rust: every answer is compared, and after
-//! every change every ring. At the end every answer must have come, and the lowest and the highest
+//! Some 120,000 made calls, to the library and to plain Rust: every answer is compared, of a batch
+//! each, and after every change every ring. At the end every answer must have come, and the lowest and the highest
 //! place on a ring must have been apart often enough.
 mod plain;
 
@@ -12,6 +12,7 @@ use std::fmt::Debug;
 const SEED: u64 = 7;
 const LIVES: usize = 500;
 const CALLS_A_LIFE: usize = 240;
+const MOST_IN_A_BATCH: usize = 40;
 const LIMIT: i32 = 1_000_000_000;
 const BEYOND: i32 = LIMIT + 1;
 
@@ -94,12 +95,13 @@ struct Life<'a> {
 impl Life<'_> {
     fn live(&mut self) {
         for _ in 0..CALLS_A_LIFE {
-            match self.chance.below(12) {
+            match self.chance.below(13) {
                 0 => self.found(),
                 1 => self.locate(),
                 2..=4 => self.assign(),
                 5 => self.assign_at(),
                 6 => self.millimetres(),
+                7 => self.assign_all(),
                 _ if self.chance.once_in(self.style.merges) => self.merge(),
                 _ => self.split(),
             }
@@ -151,6 +153,32 @@ impl Life<'_> {
         let answer = self.register.assign(x, y);
         self.compare("assign", (answer, self.rows.assign(x, y)));
         self.count_border("assign", answer);
+    }
+
+    fn assign_all(&mut self) {
+        let n = self.chance.below(MOST_IN_A_BATCH + 1);
+        let points: Vec<Point> = (0..n).map(|_| self.point()).collect();
+        match (
+            self.register.assign_all(&points),
+            self.rows.assign_all(&points),
+        ) {
+            (Ok(library), Ok(rows)) => self.compare_each(library, rows),
+            (library, rows) => {
+                self.compare("assign_all", (library.map(|_| ()), rows.map(|_| ())));
+            }
+        }
+    }
+
+    fn compare_each(
+        &mut self,
+        library: Vec<Result<Class, Refusal>>,
+        rows: Vec<Result<Class, Refusal>>,
+    ) {
+        assert_eq!(library.len(), rows.len());
+        for answers in library.into_iter().zip(rows) {
+            self.compare("assign_all", answers);
+            self.count_border("assign_all", answers.0);
+        }
     }
 
     fn assign_at(&mut self) {
@@ -326,7 +354,7 @@ fn names(answer: &str) -> String {
 }
 
 /// Every answer of each call but refusals 1 and 14; an accepted change has no name.
-const ANSWERS: [(&str, &[&str]); 7] = [
+const ANSWERS: [(&str, &[&str]); 8] = [
     ("found", &["", "OutlineThere", "NoRing", "BeyondGrid"]),
     (
         "split",
@@ -356,6 +384,18 @@ const ANSWERS: [(&str, &[&str]); 7] = [
     ),
     (
         "assign",
+        &[
+            "Border Vertex",
+            "Border Edge",
+            "One",
+            "None",
+            "Several",
+            "NoOutline",
+            "BeyondGrid",
+        ],
+    ),
+    (
+        "assign_all",
         &[
             "Border Vertex",
             "Border Edge",
@@ -409,7 +449,7 @@ fn lives_of_registers() {
         .iter()
         .flat_map(|(call, names)| names.iter().map(move |name| format!("{call} {name}")));
     assert_eq!(seen, all.collect());
-    for call in ["locate", "assign", "assign_at"] {
+    for call in ["locate", "assign", "assign_all", "assign_at"] {
         for on in ["Vertex", "Edge"] {
             let many = *apart.get(&format!("{call} {on}")).unwrap_or(&0);
             println!("{call} {on}: {many} answers with places apart");

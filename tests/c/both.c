@@ -10,10 +10,10 @@
 
 #define MOST_LIST 8192
 #define KINDS 9
-#define REFUSALS 20
+#define REFUSALS 29
 #define JUNK 0x5A5A5A5A5A5A5A5Au
 
-/* One call in so many goes by way of the struct. Tests that ask all nine calls on a register in turn give each of them its turn by this. */
+/* One call in so many goes by way of the struct. Tests that ask all ten calls on a register in turn give each of them its turn by this. */
 #define IN_STRUCT 7
 
 uint64_t both_calls;
@@ -26,19 +26,19 @@ static uint64_t came[CALLS][KINDS + REFUSALS];
 static bool by_struct;
 static uint64_t in_struct[CALLS];
 
-const char *const both_names[CALLS] = {"locate", "well_formed",    "found",      "split",              "merge",
-                                       "assign", "assign_counted", "assign_fix", "assign_fix_counted", "assign_missing"};
+const char *const both_names[CALLS] = {"locate",         "well_formed", "found",              "split",          "merge",     "assign",
+                                       "assign_counted", "assign_fix",  "assign_fix_counted", "assign_missing", "assign_all"};
 
 const char *const both_columns[COLUMNS] = {"outline x", "outline y", "store x", "store y"};
 
 static const char *const kind_names[KINDS] = {"refused", "done", "vertex", "edge", "off", "border", "one", "none", "several"};
 
-#define KIND(kind) (1u << (LAUNCHRAMP_##kind))
-#define REFUSAL(number) (1u << (KINDS + (number)))
+#define KIND(kind) (UINT64_C(1) << (LAUNCHRAMP_##kind))
+#define REFUSAL(number) (UINT64_C(1) << (KINDS + (number)))
 #define SORTED (KIND(BORDER) | KIND(ONE) | KIND(NONE) | KIND(SEVERAL) | REFUSAL(1) | REFUSAL(2) | REFUSAL(5))
 
 /* What launchramp.h says that each call may answer. */
-static const uint32_t named[CALLS] = {
+static const uint64_t named[CALLS] = {
     [LOCATE] = KIND(VERTEX) | KIND(EDGE) | KIND(OFF) | REFUSAL(4) | REFUSAL(5),
     [WELL_FORMED] = KIND(DONE) | REFUSAL(1),
     [FOUND] = KIND(DONE) | REFUSAL(1) | REFUSAL(3) | REFUSAL(4) | REFUSAL(5),
@@ -49,6 +49,7 @@ static const uint32_t named[CALLS] = {
     [ASSIGN_FIX] = SORTED | REFUSAL(18),
     [ASSIGN_FIX_COUNTED] = SORTED | REFUSAL(18) | REFUSAL(14),
     [ASSIGN_MISSING] = REFUSAL(1) | REFUSAL(2) | REFUSAL(19),
+    [ASSIGN_ALL] = KIND(DONE) | REFUSAL(1) | REFUSAL(2) | REFUSAL(4) | REFUSAL(28),
 };
 
 bool both_same(struct plain_answer one, struct plain_answer other)
@@ -148,9 +149,13 @@ static void print_call(const struct twice *t, const struct call *call)
     if (call->which == ASSIGN_FIX || call->which == ASSIGN_FIX_COUNTED)
         printf(", fix %.17g (%016" PRIx64 ") %.17g (%016" PRIx64 ")", call->easting, exact_bits(call->easting), call->northing,
                exact_bits(call->northing));
+    if (call->which == ASSIGN_ALL)
+        printf(", %zu numbers for the answers", call->answers_length);
     printf("\n");
-    if (call->which == LOCATE || call->which == FOUND || call->which == SPLIT)
+    if (call->which == LOCATE || call->which == FOUND || call->which == SPLIT || call->which == ASSIGN_ALL)
         print_list("list", call->list, call->length);
+    if (call->which == ASSIGN_ALL)
+        answers_print(call->answers_length);
     if (call->which == LOCATE)
         return;
     print_lists("the lists before", &t->before);
@@ -195,6 +200,8 @@ static struct plain_answer plain_call(struct twice *t, const struct call *c)
         return plain_count(t->plain_counts, plain_assign_fix(&t->rows, c->easting, c->northing));
     case ASSIGN_MISSING:
         return plain_assign_missing(&t->rows);
+    case ASSIGN_ALL:
+        return plain_assign_all(&t->rows, c->list, c->length, answers_expected.numbers, c->answers_length);
     default:
         return well_formed;
     }
@@ -232,6 +239,8 @@ static uint32_t call_on_lists(struct twice *t, const struct call *c, uint64_t *v
         return launchramp_assign_fix_counted(LENT(l), c->easting, c->northing, t->counts, values);
     case ASSIGN_MISSING:
         return launchramp_assign_missing(LENT(l), values);
+    case ASSIGN_ALL:
+        return launchramp_assign_all(LENT(l), c->list, c->length, answers_got.numbers, c->answers_length, values);
     default:
         return told_well_formed(launchramp_well_formed(LENT(l)), values);
     }
@@ -257,6 +266,8 @@ static uint32_t call_on_struct(struct twice *t, launchramp_register *r, const st
         return launchramp_assign_fix_counted_in(r, c->easting, c->northing, t->counts, values);
     case ASSIGN_MISSING:
         return launchramp_assign_missing_in(r, values);
+    case ASSIGN_ALL:
+        return launchramp_assign_all_in(r, c->list, c->length, answers_got.each, c->answers_length / LAUNCHRAMP_ANSWER_LENGTH, values);
     default:
         return told_well_formed(launchramp_well_formed_in(r), values);
     }
@@ -344,11 +355,33 @@ static void compare_lists(struct twice *t, const struct call *call, struct plain
         differ(t, call, "the tally afterwards", got, expected);
 }
 
+/* Whether a batch has the answer to its point i that launchramp_assign gives. */
+static bool as_assigned(const struct lists *l, const struct call *call, size_t i)
+{
+    const launchramp_answer *answer = &answers_got.each[i];
+    uint64_t values[LAUNCHRAMP_VALUES];
+    return launchramp_assign(LENT(l), call->list[2 * i], call->list[2 * i + 1], values) == answer->kind &&
+           memcmp(values, answer->values, sizeof values) == 0;
+}
+
+static void compare_answers(const struct twice *t, const struct call *call, struct plain_answer got, struct plain_answer expected)
+{
+    const size_t many = got.kind == LAUNCHRAMP_DONE ? call->length / 2 : 0;
+    if (!answers_same(call->answers_length))
+        differ(t, call, "the list of answers", got, expected);
+    for (size_t i = 0; i < many; i++)
+        if (!as_assigned(&t->lists, call, i))
+            differ(t, call, "from launchramp_assign's answer to one of the points", got, expected);
+    answers_count(call->length, call->answers_length, &got);
+}
+
 struct plain_answer both_ask(struct twice *t, const struct call *call)
 {
     static int32_t lent[MOST_LIST];
     uint64_t values[LAUNCHRAMP_VALUES + 1];
     size_t bytes = call->length * sizeof lent[0];
+    if (call->which == ASSIGN_ALL)
+        answers_lend(call->answers_length);
     struct plain_answer expected = plain_call(t, call), got;
     both_calls++;
     memcpy(lent, call->list, bytes);
@@ -362,6 +395,8 @@ struct plain_answer both_ask(struct twice *t, const struct call *call)
         differ(t, call, "the lent list was changed", got, expected);
     if (call->which != LOCATE)
         compare_lists(t, call, got, expected);
+    if (call->which == ASSIGN_ALL)
+        compare_answers(t, call, got, expected);
     came[call->which][outcome(got)]++;
     spans_count(t, call, &got);
     return got;

@@ -1,9 +1,10 @@
 /* One call to the library and to plain.h, compared: the answer and its values, every byte of the lists where nothing may change, and every
- * ring where something does, and then the sums of sums.h. Every few calls go by way of struct launchramp_register. The first difference is printed
- * with the whole call, and ends the program with status 1. */
+ * ring where something does, and then the sums of sums.h; of a batch each answer, with launchramp_assign's too. Every few calls go by way of
+ * struct launchramp_register. The first difference is printed with the whole call, and ends the program with status 1. */
 #ifndef BOTH_H
 #define BOTH_H
 
+#include "answers.h"
 #include "plain.h"
 
 /* A register and a tally twice over: as the library has them and in plain C. */
@@ -31,6 +32,7 @@ enum which {
     ASSIGN_FIX,
     ASSIGN_FIX_COUNTED,
     ASSIGN_MISSING,
+    ASSIGN_ALL,
     CALLS
 };
 
@@ -38,9 +40,11 @@ struct call {
     enum which which;
     /* A split's d, i, j; a merge's kept, a, gone, b, k. */
     size_t number[5];
-    /* A ring or a path. */
+    /* A ring, a path or a batch's points. */
     const int32_t *list;
     size_t length;
+    /* How many numbers a batch's answers are lent: at most ANSWERS_MOST. */
+    size_t answers_length;
     int32_t x, y;
     double easting, northing;
 };

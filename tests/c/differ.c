@@ -1,6 +1,7 @@
 /* differ [SEED]: the library against plain.c on made calls: rings and points, the lives of registers, damage and litter, tallies, reports in
- * metres. It prints a line for each part, then how often each answer came of each call. Status 1 where anything differs, where a part asked
- * nothing or sums.h, spans.h or harms.h too little, or where launchramp.h names an answer that never came. */
+ * metres and in batches. It prints a line for each part, then how often each answer came of each call. Status 1 where anything differs, where a part asked
+ * nothing or sums.h, spans.h, harms.h or answers.h too little, or where launchramp.h names an answer that never came. */
+#include "batches.h"
 #include "damage.h"
 #include "harms.h"
 #include "litter.h"
@@ -221,9 +222,12 @@ int main(int count, char **words)
     litter_registers(40);
     tallies_at_their_limits();
     part("tallies of lives", 1000, tallies_of_a_life);
+    part("batches on scattered districts", 200, batches_on_scattered_districts);
+    part("batches on registers of every make", 200, batches_on_every_make);
     bool summed = sums_enough();
     bool apart = spans_enough();
     bool harmed = harms_enough();
+    bool batched = answers_enough();
     printf("%" PRIu64 " calls; how often each answer and each [refusal] came:\n", both_calls);
-    return both_all_reached() && summed && apart && harmed ? 0 : 1;
+    return both_all_reached() && summed && apart && harmed && batched ? 0 : 1;
 }

@@ -99,7 +99,7 @@ struct plain_point made_point(const int32_t *list, size_t length, struct land la
 }
 
 /* The lists of the last call that was made. */
-static struct made_list ring, path;
+static struct made_list ring, path, points;
 
 size_t made_district(const struct plain_register *g)
 {
@@ -273,18 +273,53 @@ static double receivers_value(int32_t coordinate)
     }
 }
 
-static struct call make_report(enum which which, const struct plain_register *g, struct land land)
+/* Near some district's ring, anywhere on the land, or beyond the grid. */
+static struct plain_point report_point(const struct plain_register *g, struct land land)
 {
     const struct plain_ring *near = &g->district[made_district(g)];
     struct plain_point r = made_point((const int32_t *)near->at, 2 * near->n, land);
+    if (once_in(40))
+        r.x = made_beyond();
+    if (once_in(40))
+        r.y = made_beyond();
+    return r;
+}
+
+static struct call make_report(enum which which, const struct plain_register *g, struct land land)
+{
+    struct plain_point r = report_point(g, land);
     struct call call = {.which = which, .list = made_no_list, .x = r.x, .y = r.y};
-    if (once_in(40))
-        call.x = made_beyond();
-    if (once_in(40))
-        call.y = made_beyond();
     call.easting = receivers_value(call.x);
     call.northing = receivers_value(call.y);
     return call;
+}
+
+/* So many answers' numbers exactly, some more, or too few. */
+static size_t answers_room(size_t many)
+{
+    const size_t exact = LAUNCHRAMP_ANSWER_LENGTH * many;
+    if (once_in(12) && many > 0)
+        return once_in(2) ? exact - 1 : below(exact);
+    return once_in(2) ? exact : exact + 1 + below(ANSWERS_MOST_MORE);
+}
+
+struct call made_batch(const struct plain_register *g, struct land land, size_t many)
+{
+    points.length = 2 * many + (once_in(12) ? 1 : 0);
+    for (size_t i = 0; 2 * i < points.length; i++) {
+        struct plain_point r = report_point(g, land);
+        /* A place's x with another's y is beside rings, and level with a bound of one. */
+        points.at[2 * i] = once_in(4) ? report_point(g, land).x : r.x;
+        points.at[2 * i + 1] = r.y;
+    }
+    struct call call = {.which = ASSIGN_ALL, .list = points.at, .length = points.length, .answers_length = answers_room(many)};
+    return call;
+}
+
+/* Mostly a small batch. */
+static size_t batch_size(void)
+{
+    return once_in(200) ? below(PLAIN_MOST_VERTICES + 1) : below(ANSWERS_SMALL_BATCH + 1);
 }
 
 struct call made_founding(struct land land, size_t vertices)
@@ -318,6 +353,8 @@ struct call made_call(enum which which, const struct plain_register *g, struct l
         return make_merge(g);
     case WELL_FORMED:
         return well_formed;
+    case ASSIGN_ALL:
+        return made_batch(g, land, batch_size());
     default:
         return make_report(which, g, land);
     }

@@ -307,6 +307,27 @@ struct plain_answer plain_assign(const struct plain_register *g, int32_t x, int3
     return sorted(g, r);
 }
 
+static void tell(uint64_t *numbers, struct plain_answer answer)
+{
+    numbers[0] = answer.kind;
+    memcpy(numbers + 1, answer.values, sizeof answer.values);
+}
+
+struct plain_answer plain_assign_all(const struct plain_register *g, const int32_t *points, size_t length, uint64_t *answers,
+                                     size_t answers_length)
+{
+    const size_t each = 1 + LAUNCHRAMP_VALUES, many = length / 2;
+    if (g->outline.n == 0)
+        return refused(NO_OUTLINE);
+    if (length % 2 == 1)
+        return refused(NO_RING);
+    if (each * many > answers_length)
+        return refused(LIST_TOO_SHORT);
+    for (size_t i = 0; i < many; i++)
+        tell(answers + each * i, plain_assign(g, points[2 * i], points[2 * i + 1]));
+    return told(LAUNCHRAMP_DONE, 0, 0);
+}
+
 struct plain_answer plain_place(struct exact easting, struct exact northing, struct plain_point *point)
 {
     if (!easting.finite || !northing.finite)

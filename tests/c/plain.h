@@ -28,7 +28,8 @@ enum {
     NO_ROOM = 12,
     COUNT_FULL = 14,
     NOT_FINITE = 18,
-    MISSING = 19
+    MISSING = 19,
+    LIST_TOO_SHORT = 28
 };
 
 /* Laid out as two numbers x, y of a list. */
@@ -64,6 +65,11 @@ struct plain_answer plain_found(struct plain_register *g, const int32_t *list, s
 struct plain_answer plain_split(struct plain_register *g, size_t d, size_t i, size_t j, const int32_t *path, size_t length);
 struct plain_answer plain_merge(struct plain_register *g, size_t kept, size_t a, size_t gone, size_t b, size_t k);
 struct plain_answer plain_assign(const struct plain_register *g, int32_t x, int32_t y);
+
+/* Point by point, to nine numbers of `answers` each; where all of it is refused they stay as they were. */
+struct plain_answer plain_assign_all(const struct plain_register *g, const int32_t *points, size_t length, uint64_t *answers,
+                                     size_t answers_length);
+
 struct plain_answer plain_assign_fix(const struct plain_register *g, double easting, double northing);
 struct plain_answer plain_assign_missing(const struct plain_register *g);
 

@@ -1,2 +1,4 @@
 pub mod Spots
 pub mod Sides
+pub mod Scans
+pub mod Pairs

@@ -12,6 +12,7 @@ ghost use Rattle.ring.specs.Columns.{points};
 ghost use Rattle.ring.specs.Rings.{at};
 ghost use Rattle.ring.specs.Walk.{headOf, mostTurns, Way, Sight, Counts, Aside, none, Counted};
 ghost use Rattle.columns.specs.Walk.{Clean, Ready, Beside};
+ghost use Rattle.columns.specs.Rows.{preceding};
 
 // As many edges are passed over at a time.
 const BLOCK: usize = 16;
@@ -35,14 +36,31 @@ fn seen(xs: &[i32], ys: &[i32], r: exact::Arrow, i: usize) -> End
     ring::marked(way(xs, ys, r, i))
 }
 
+// The vertex before vertex j of a ring of n.
+fn previous(n: usize, j: usize) -> usize
+    requires { ⌜ j < n ⌝ }
+    ensures { λ i. ⌜ i ≡ preceding n j ⌝ }
+{
+    if 0 < j { j - 1 } else { n - 1 }
+}
+
+// On from c along the edge that leads to vertex j.
+pub fn edge_to(xs: &[i32], ys: &[i32], r: exact::Arrow, j: usize, c: Count) -> Count
+    requires { ⌜ Ready (now xs) (now ys) (headOf r) ⌝ }
+    requires { ⌜ j < length (now xs) ⌝ }
+    requires { ⌜ natAbs (c .turns) ≤ mostTurns ⌝ }
+    ensures { λ v. ⌜ Counts (points (now (xs .entry)) (now (ys .entry))) (headOf r) (preceding (length (now (xs .entry))) j) 1 c v ⌝ }
+{
+    let i = previous(xs.len(), j);
+    c.along(seen(xs, ys, r, i), seen(xs, ys, r, j))
+}
+
 // The count of the closing edge.
 fn closing(xs: &[i32], ys: &[i32], r: exact::Arrow) -> Count
     requires { ⌜ Ready (now xs) (now ys) (headOf r) ⌝ }
     ensures { λ c. ⌜ Counts (points (now (xs .entry)) (now (ys .entry))) (headOf r) (length (now (xs .entry)) - 1) 1 none c ⌝ }
 {
-    let nothing = Count { turns: 0, clear: 1 };
-    let last = xs.len() - 1;
-    nothing.along(seen(xs, ys, r, last), seen(xs, ys, r, 0))
+    edge_to(xs, ys, r, 0, Count { turns: 0, clear: 1 })
 }
 
 // On from c along the k edges from vertex i.
@@ -106,6 +124,15 @@ fn block(xs: &[i32], ys: &[i32], r: Point, i: usize, k: usize, c: Count) -> Coun
         return c.past(seen(xs, ys, w, i), seen(xs, ys, w, i + k));
     }
     stretch(xs, ys, w, i, k, c)
+}
+
+// All edges of a ring, one after the other.
+pub fn each(xs: &[i32], ys: &[i32], r: exact::Arrow) -> Count
+    requires { ⌜ Ready (now xs) (now ys) (headOf r) ⌝ }
+    ensures { λ c. ⌜ Counted (points (now (xs .entry)) (now (ys .entry))) (headOf r) c ⌝ }
+{
+    let first = closing(xs, ys, r);
+    stretch(xs, ys, r, 0, xs.len() - 1, first)
 }
 
 // All edges of a ring: by blocks that are all of one size, which the compiler then knows wherever a block is asked, and behind them edge by edge.

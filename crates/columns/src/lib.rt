@@ -1,8 +1,10 @@
 // Where a point of the grid lies against a ring whose coordinates stand in two columns, all x and all y. The walk is that of `ring` along a list
-// x, y, x, y, .., with loops of its own, since one loop for both, by a stride, is slower for both. What both do with a vertex is in `ring`.
+// x, y, x, y, .., with loops of its own, since one loop for both, by a stride, is slower for both. What both do with a vertex is in `ring`. Here one column
+// can be read alone, so that a ring of some dozens of vertices is scanned before it is walked along.
 mod counting;
 mod passing;
 mod places;
+mod rows;
 
 pub use passing::missing;
 use ring::Located;
@@ -35,7 +37,7 @@ pub fn locate_on(xs: &[i32], ys: &[i32], r: Point) -> Located
     requires { ⌜ Ready (now xs) (now ys) r ⌝ }
     ensures { λ l. ⌜ placeOf l ≡ locatedOn (points (now (xs .entry)) (now (ys .entry))) r ⌝ }
 {
-    let c = counting::blocks(xs, ys, r);
+    let c = rows::around(xs, ys, r);
     if c.clear == 0 {
         let n = xs.len();
         return ring::found(places::find(&xs[0..n], &ys[0..n], ring::wide(r)), n, c);

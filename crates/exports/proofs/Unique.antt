@@ -12,6 +12,7 @@ use Rattle.fixes.specs.declared.Placed.{Placed}
 use Rattle.exports.specs.Codes.{Code, Tells}
 use Rattle.exports.specs.Counts.{tallyOf}
 use Rattle.exports.specs.Calls.{ToldBy, CountTells, PlaceTells}
+use Rattle.exports.specs.Batches.{BatchTells}
 
 pub one-told : (r s : ℕ) (values values′ : List ℕ) (c : Code) → Tells r values c → Tells s values′ c → (r ≡ s) × (values ≡ values′)
 one-told r s values values′ c p q = (p .kind ∙ sym (q .kind), p .values ∙ sym (q .values))
@@ -36,3 +37,8 @@ pub one-placed : (r s : ℕ) (values values′ : List ℕ) (p : Placed) (before 
 one-placed r s values values′ p before after after′ t u =
     let told = one-told r s values values′ _ (t .tells) (u .tells) in
     (told .0, told .1, t .left ∙ sym (u .left))
+
+pub one-batch : (r s : ℕ) (values values′ : List ℕ) (l : Lists) (xs : List ℤ) (before after after′ : List ℕ) → BatchTells r values l xs before after → BatchTells s values′ l xs before after′ → (r ≡ s) × (values ≡ values′) × (after ≡ after′)
+one-batch r s values values′ l xs before after after′ p q =
+    let told = one-told r s values values′ _ (p .tells) (q .tells) in
+    (told .0, told .1, p .left ∙ sym (q .left))

@@ -1,3 +1,4 @@
 pub mod Codes
 pub mod Counts
 pub mod Calls
+pub mod Batches

@@ -1,5 +1,6 @@
 // The calls for programs in other languages: numbers and lent lists only. No call has a `requires`. include/launchramp.h declares them; how
 // an answer is told is in specs/Codes.antt.
+mod batches;
 mod counting;
 mod telling;
 
@@ -13,6 +14,7 @@ ghost use Rattle.register.specs.Sorting.{assigned};
 ghost use Rattle.fixes.specs.Millimetres.{placed};
 ghost use Rattle.register.specs.Placing.{assignedAt};
 ghost use Rattle.exports.specs.Codes.{placeCode, answerCode, Tells};
+ghost use Rattle.exports.specs.Batches.{BatchTells};
 ghost use Rattle.exports.specs.Calls.{FoundTells, SplitTells, MergeTells, CountTells, PlaceTells};
 
 // Where a point lies against one ring.
@@ -126,6 +128,26 @@ pub extern "C" fn launchramp_assign_counted(
 {
     let answer = register::assign(ox, oy, sx, sy, runs, 0, x, y);
     telling::assigned(counting::counted(answer, counts), values)
+}
+
+// Sorts the reports at all points of a list x, y, x, y, .., each as launchramp_assign does; nine numbers of `answers` tell each.
+#[no_mangle]
+pub extern "C" fn launchramp_assign_all(
+    ox: &[i32],
+    oy: &[i32],
+    sx: &[i32],
+    sy: &[i32],
+    runs: &[u32],
+    points: &[i32],
+    answers: &mut [u64],
+    values: &mut Values,
+) -> u32
+    ensures { λ r. ⌜ BatchTells r (now (values .exit)) (lent (now (ox .entry)) (now (oy .entry)) (now (sx .entry)) (now (sy .entry)) (now (runs .entry))) (now (points .entry)) (now (answers .entry)) (now (answers .exit)) ⌝ }
+{
+    telling::judged(
+        batches::assign_all(ox, oy, sx, sy, runs, points, answers),
+        values,
+    )
 }
 
 // A receiver's fix, in metres, as the millimetres x, y of the grid.

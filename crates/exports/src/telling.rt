@@ -4,12 +4,14 @@ use districts::Assigned;
 use districts::Class;
 use fixes::Placed;
 use refusals::Refusal;
+use refusals::Verdict;
 use register::Founded;
 use ring::Located;
 use ring::Touch;
 use ring::Winding;
 ghost use Rattle.ring.specs.Locate.{touchOf, placeOf};
 ghost use Rattle.refusals.specs.Numbers.{numberOf};
+ghost use Rattle.refusals.specs.Verdicts.{verdictOf};
 ghost use Rattle.districts.specs.Answers.{belongs, answerOf};
 ghost use Rattle.register.specs.Calls.{outcomeOf};
 ghost use Rattle.changes.specs.Answers as Changes;
@@ -112,6 +114,15 @@ pub fn founded(f: Founded, values: &mut Values) -> u32
     match f {
         Founded::Done => told(DONE, 0, 0, values),
         Founded::Refused(n) => refused(n, values),
+    }
+}
+
+pub fn judged(v: Verdict, values: &mut Values) -> u32
+    ensures { λ r. ⌜ Tells r (now (values .exit)) (verdictCode (verdictOf v)) ⌝ }
+{
+    match v {
+        Verdict::Accepted => told(DONE, 0, 0, values),
+        Verdict::Refused(r) => refused(r, values),
     }
 }
 

@@ -20,6 +20,8 @@ pub enum Refusal {
     CountFull,
     NotFinite,
     Missing,
+    // A lent list that is too short for the result.
+    ListTooShort,
 }
 
 // What a judge says before anything is done.
@@ -48,5 +50,6 @@ pub fn number(r: Refusal) -> usize
         Refusal::CountFull => 14,
         Refusal::NotFinite => 18,
         Refusal::Missing => 19,
+        Refusal::ListTooShort => 28,
     }
 }

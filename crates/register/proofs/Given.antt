@@ -8,6 +8,9 @@ use Rattle.refusals.specs.Verdicts.{accept, refuse, verdict}
 use Rattle.refusals.proofs.Verdicts.{stops-at, passes, passed-all, stops-early, passes-first}
 use Rattle.ring.specs.declared.Point.{Point}
 use Rattle.ring.specs.Grid.{point, beyond}
+use Rattle.ring.specs.Walk.{OnGrid}
+use Rattle.ring.proofs.Pick.{neither-left, neither-right}
+use Rattle.ring.proofs.OnGrid.{point-on-grid}
 use Rattle.districts.specs.Register.{Register}
 use Rattle.districts.specs.Lists.{district}
 use Rattle.districts.specs.Lent.{Lists, outlineOf, storeOf, formed, means}
@@ -34,6 +37,9 @@ module _ (a b : ℤ) (x : Answer) where
 
   pub point-taken : (beyond a || beyond b) ≡ false → x ≡ given (verdict (pointTests a b)) x
   point-taken e = sym (ap (λ v. given v x) (passes 5 _ [] e ∙ passed-all))
+
+pub point-grid : (r : Point) → (beyond (r .x) || beyond (r .y)) ≡ false → OnGrid r
+point-grid r e = point-on-grid (r .x) (r .y) (neither-left (beyond (r .x)) _ e) (neither-right (beyond (r .x)) _ e)
 
 module _ (l : Lists) (good : formed l ≡ true) where
   -- sorting by the runs is sorting by the register that they mean

@@ -2,11 +2,11 @@
 use Prim.Native.Nat.{ℕ, _+_, _-_, _≤_, _<_}
 use native.Mathlib.Decide.{decLt}
 use native.Mathlib.Omega.{arith}
-use mathlib.Core.Path.{_≡_, sym, ap, subst, _∙_}
+use mathlib.Core.Path.{_≡_, sym, ap, subst, subst₂, _∙_}
 use mathlib.Core.Bool.{false}
 use mathlib.Core.List.{List}
 use lib.IntN.{ℤ, pos}
-use lib.ListN.{length}
+use lib.ListN.{length, take, drop}
 use Rattle.ring.specs.declared.Point.{Point}
 use Rattle.ring.specs.Columns.{points}
 use Rattle.ring.specs.Locate.{Place, off, locatedOn}
@@ -16,9 +16,11 @@ use Rattle.columns.proofs.Sides.{row-misses, column-misses}
 use Rattle.districts.specs.Lists.{firstPlace, size, part, district}
 use Rattle.districts.specs.Lent.{GoodRuns}
 use Rattle.districts.proofs.Meaning.{unused-when, ring-when}
-use Rattle.districts.proofs.Lent.{part-length, points-part}
+use Rattle.districts.proofs.Lent.{cut, cut-points, part-length, points-part}
 use Rattle.index.specs.Axis.{Held, run, RunBeside}
+use Rattle.register.specs.declared.standing.Stance.{Stance}
 use Rattle.register.specs.Sorting.{rests, winds, liesTo}
+use Rattle.register.specs.Standing.{Stands}
 
 -- where r lies to a number
 abbrev pub lies : List ℤ → List ℤ → List ℕ → Point → ℕ → Place
@@ -52,6 +54,22 @@ ready sx sy runs r good d h k g =
         point = g;
       };
     }
+
+-- ---- a used number's run, as it is handed on: n places from f on
+
+module _ (sx sy : List ℤ) (runs : List ℕ) (good : GoodRuns sx sy runs) (r : Point) (grid : OnGrid r) (d : ℕ) (few : d < 64) (used : size runs d ≡ 0 → ⊥) (f n : ℕ) (at : f ≡ firstPlace runs d) (long : n ≡ size runs d) where
+  pub run-inside : f + n ≤ 2048
+  run-inside = omega (arith, at, long, good .fits d few (omega arith))
+
+  pub run-ready : Ready (take (f + n - f) (drop f sx)) (take (f + n - f) (drop f sy)) r
+  run-ready =
+      subst₂ (λ xs ys. Ready xs ys r) (sym (cut sx f n)) (sym (cut sy f n))
+      (subst₂ (λ f n. Ready (part sx f n) (part sy f n) r) (sym at) (sym long) (ready sx sy runs r good d few used grid))
+
+  pub run-lies : (s : Stance) → Stands s (locatedOn (points (take (f + n - f) (drop f sx)) (take (f + n - f) (drop f sy))) r) → Stands s (lies sx sy runs r d)
+  run-lies s stands =
+      let is = cut-points sx sy f n ∙ (λ i. part (points sx sy) (at i) (long i)) in
+      subst (Stands s) (ap (λ P. locatedOn P r) is ∙ sym (ap (liesTo r) (ring-when (points sx sy) (firstPlace runs d) (size runs d) used))) stands
 
 -- what an index along x or y may be made of
 pub held-x : (sx sy : List ℤ) (runs : List ℕ) → GoodRuns sx sy runs → Held sx runs

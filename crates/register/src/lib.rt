@@ -8,6 +8,7 @@ mod standing;
 
 use fixes::Fix;
 pub use founding::found;
+pub use listing::place_listed;
 pub use placing::assign_at;
 use refusals::Refusal;
 pub use sorting::assign;

@@ -1,11 +1,15 @@
 // Sorting a report by an index: only the districts are asked that it lists for the report's column and for its row, the lowest first.
-use crate::sorting::lies;
+use crate::sorting::off_grid;
 use crate::standing::Seen;
 use crate::standing::Stance;
+use crate::standing::lying;
+use districts::Assigned;
 use districts::Class;
 use districts::NUMBERS;
+use districts::Report;
 use index::Axis;
 use index::Bound;
+use refusals::Refusal;
 use ring::Point;
 ghost use mathlib.Core.Path.{_≡_};
 ghost use mathlib.Core.Bool.{_&&_};
@@ -15,11 +19,12 @@ ghost use lib.ListN.{length};
 ghost use Rattle.ring.specs.Columns.{points};
 ghost use Rattle.ring.specs.Walk.{OnGrid};
 ghost use Rattle.index.specs.Axis.{OnAxis, within, listed};
-ghost use Rattle.districts.specs.Answers.{belongs};
+ghost use Rattle.districts.specs.Answers.{belongs, report, answerOf};
 ghost use Rattle.districts.specs.Lent.{GoodRuns};
 ghost use Rattle.districts.specs.Lists.{district};
 ghost use Rattle.register.specs.Listing.{Bounding, Indexed};
-ghost use Rattle.register.specs.Sorting.{liesTo, sortedBy};
+ghost use Rattle.refusals.specs.Verdicts.{verdict};
+ghost use Rattle.register.specs.Sorting.{liesTo, sortedBy, pointTests, given};
 ghost use Rattle.register.specs.Standing.{Stands};
 
 // Whether r is within the bounds of d.
@@ -30,7 +35,7 @@ fn near(bx: &[i32], by: &[i32], d: usize, r: Point) -> bool
     index::within(bx, d, Bound(r.x)) & index::within(by, d, Bound(r.y))
 }
 
-// How r lies to district d.
+// How r lies to district d. Not by `sorting::lies`: that is set into the loop of a single report as long as nobody else calls it.
 fn lies_near(
     sx: &[i32],
     sy: &[i32],
@@ -49,7 +54,13 @@ fn lies_near(
     if !near(bx, by, d, r) {
         return Stance::Outside;
     }
-    lies(sx, sy, runs, d, r, true, true)
+    let n = districts::size(runs, d);
+    if n == 0 {
+        return Stance::Outside;
+    }
+    let from = districts::first_place(runs, d);
+    let to = from + n;
+    lying(columns::locate_on(&sx[from..to], &sy[from..to], r))
 }
 
 // The districts that the index lists for r, a bit for each.
@@ -61,7 +72,7 @@ fn candidates(mx: &[u64], my: &[u64], ax: Axis, ay: Axis, r: Point) -> u64
 }
 
 // The class of a point. Each turn takes the lowest district that is left: the bits below it are shifted out, and it with them.
-pub fn sort_listed(
+fn sort_listed(
     sx: &[i32],
     sy: &[i32],
     runs: &[u32],
@@ -97,4 +108,31 @@ pub fn sort_listed(
         d += 1;
     }
     seen.class()
+}
+
+// Where report `number` at r belongs, in a register that is well-formed and has an outline, by an index of it.
+pub fn place_listed(
+    sx: &[i32],
+    sy: &[i32],
+    runs: &[u32],
+    bx: &[i32],
+    by: &[i32],
+    mx: &[u64],
+    my: &[u64],
+    ax: Axis,
+    ay: Axis,
+    number: u32,
+    r: Point,
+) -> Assigned
+    requires { ⌜ GoodRuns (now sx) (now sy) (now runs) ⌝ }
+    requires { ⌜ Indexed (now sx) (now sy) (now runs) (now bx) (now by) (now mx) (now my) ax ay ⌝ }
+    ensures { λ a. ⌜ answerOf a ≡ given (verdict (pointTests (r .x) (r .y))) (report number (sortedBy (λ d. liesTo r (district (points (now (sx .entry)) (now (sy .entry))) (now (runs .entry)) d)))) ⌝ }
+{
+    if off_grid(r) {
+        return Assigned::Refused(Refusal::BeyondGrid);
+    }
+    Assigned::Sorted(Report {
+        number,
+        class: sort_listed(sx, sy, runs, bx, by, mx, my, ax, ay, r),
+    })
 }

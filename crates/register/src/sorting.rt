@@ -11,7 +11,9 @@ use refusals::Refusal;
 use refusals::Verdict;
 use ring::Point;
 ghost use mathlib.Core.Path.{_≡_};
+ghost use mathlib.Core.Bool.{_||_};
 ghost use Prim.Native.Nat.{_<_};
+ghost use Rattle.ring.specs.Grid.{beyond};
 ghost use Rattle.ring.specs.Locate.{locatedOn};
 ghost use Rattle.ring.specs.Walk.{OnGrid};
 ghost use Rattle.ring.specs.Columns.{points};
@@ -23,14 +25,11 @@ ghost use Rattle.register.specs.Sorting.{liesTo, sortedBy, pointTests, g
 ghost use Rattle.register.specs.Standing.{Stands};
 ghost use Rattle.districts.specs.Lent.{lent, formed, means, GoodRuns};
 
-// How r lies to a ring. Where r may be far from it, it is walked along only if neither of r's lines misses it; the row is asked first, or the column.
-fn lies_to_ring(xs: &[i32], ys: &[i32], r: Point, near: bool, row_first: bool) -> Stance
+// How r lies to a ring. It is walked along only if neither of r's lines misses it; the row is asked first, or the column.
+fn lies_to_ring(xs: &[i32], ys: &[i32], r: Point, row_first: bool) -> Stance
     requires { ⌜ Ready (now xs) (now ys) r ⌝ }
     ensures { λ s. ⌜ Stands s (locatedOn (points (now (xs .entry)) (now (ys .entry))) r) ⌝ }
 {
-    if near {
-        return lying(columns::locate_on(xs, ys, r));
-    }
     match columns::missing(xs, ys, r, row_first) {
         Miss::By(row) => Stance::Missed(row),
         Miss::Neither => lying(columns::locate_on(xs, ys, r)),
@@ -38,15 +37,7 @@ fn lies_to_ring(xs: &[i32], ys: &[i32], r: Point, near: bool, row_first: bool) -
 }
 
 // How r lies to district d; to an unused number it lies outside.
-pub fn lies(
-    sx: &[i32],
-    sy: &[i32],
-    runs: &[u32],
-    d: usize,
-    r: Point,
-    near: bool,
-    row_first: bool,
-) -> Stance
+fn lies(sx: &[i32], sy: &[i32], runs: &[u32], d: usize, r: Point, row_first: bool) -> Stance
     requires { ⌜ GoodRuns (now sx) (now sy) (now runs) ⌝ }
     requires { ⌜ d < 64 ⌝ }
     requires { ⌜ OnGrid r ⌝ }
@@ -58,7 +49,7 @@ pub fn lies(
     }
     let from = districts::first_place(runs, d);
     let to = from + n;
-    lies_to_ring(&sx[from..to], &sy[from..to], r, near, row_first)
+    lies_to_ring(&sx[from..to], &sy[from..to], r, row_first)
 }
 
 // Every district in turn, until all vertices were those of one: the numbers left are unused. Of two lines the one is asked first that missed the last ring that
@@ -77,7 +68,7 @@ fn sort(sx: &[i32], sy: &[i32], runs: &[u32], r: Point) -> Class
     let mut past = 0;
     let mut d = 0;
     while past < all {
-        match lies(sx, sy, runs, d, r, false, row_first) {
+        match lies(sx, sy, runs, d, r, row_first) {
             Stance::On(touch) => return Class::Border(d, touch),
             Stance::Inside => seen = seen.with(d),
             Stance::Outside => {}
@@ -89,12 +80,18 @@ fn sort(sx: &[i32], sy: &[i32], runs: &[u32], r: Point) -> Class
     seen.class()
 }
 
+pub fn off_grid(r: Point) -> bool
+    ensures { λ b. ⌜ b ≡ (beyond (r .x) || beyond (r .y)) ⌝ }
+{
+    ring::beyond(r.x) | ring::beyond(r.y)
+}
+
 // Where report `number` at r belongs, in a register that is well-formed and has an outline.
 fn place(sx: &[i32], sy: &[i32], runs: &[u32], number: u32, r: Point) -> Assigned
     requires { ⌜ GoodRuns (now sx) (now sy) (now runs) ⌝ }
     ensures { λ a. ⌜ answerOf a ≡ given (verdict (pointTests (r .x) (r .y))) (report number (sortedBy (λ d. liesTo r (district (points (now (sx .entry)) (now (sy .entry))) (now (runs .entry)) d)))) ⌝ }
 {
-    if ring::beyond(r.x) | ring::beyond(r.y) {
+    if off_grid(r) {
         return Assigned::Refused(Refusal::BeyondGrid);
     }
     Assigned::Sorted(Report {

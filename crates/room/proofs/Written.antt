@@ -129,12 +129,12 @@ put-more L xs₀ ys₀ xs ys t p us vs h j k e f w =
 
 -- ---- in the tails of two columns
 
-tail-only : (xs us : List ℤ) (a : ℕ) → putMid a (length xs - a) xs us ≡ take a xs ++ us
+pub tail-only : {A : Type 0} (xs us : List A) (a : ℕ) → putMid a (length xs - a) xs us ≡ take a xs ++ us
 tail-only xs us a =
     let long : length (drop a xs) ≤ length xs - a = omega (arith, length-drop a xs) in
     ap (λ l. take a xs ++ (us ++ l)) (drop-of-length-le (drop a xs) long) ∙ ap (λ l. take a xs ++ l) (append-nil us)
 
-tail-of : (xs : List ℤ) (a : ℕ) → midOf a (length xs - a) xs ≡ drop a xs
+pub tail-of : {A : Type 0} (xs : List A) (a : ℕ) → midOf a (length xs - a) xs ≡ drop a xs
 tail-of xs a = take-all (length xs - a) (drop a xs) (omega (arith, length-drop a xs))
 
 -- points are written to the tails

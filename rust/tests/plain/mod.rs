@@ -108,6 +108,11 @@ impl Rows {
         })
     }
 
+    pub fn assign_all(&self, points: &[Point]) -> Result<Vec<Result<Class, Refusal>>, Refusal> {
+        refuse_if(self.outline.is_none(), Refusal::NoOutline)?;
+        Ok(points.iter().map(|&(x, y)| self.assign(x, y)).collect())
+    }
+
     pub fn assign_at(&self, position: Position) -> Result<Class, Refusal> {
         refuse_if(self.outline.is_none(), Refusal::NoOutline)?;
         let (x, y) = match position {

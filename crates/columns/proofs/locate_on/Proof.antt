@@ -1,4 +1,4 @@
--- `columns::locate_on` counts by blocks, and looks for places only where some determinant was 0. Assumes nothing.
+-- `columns::locate_on` counts all round the ring, and looks for places only where some determinant was 0. Assumes nothing.
 use Prim.Native.Nat.{_-_}
 use native.Mathlib.Nat.{le-refl}
 use native.Mathlib.Omega.{arith}
@@ -13,8 +13,8 @@ use Rattle.ring.proofs.Columns.{length-points}
 use Rattle.columns.proofs.locate_on.Statement.{statement}
 use Rattle.columns.proofs.locate_on.Tie as tie
 
-blocks-requires : tie.Need-blocks-requires
-blocks-requires c κs = search needs
+around-requires : tie.Need-around-requires
+around-requires c κs = search needs
 
 sub-find : tie.Need-sub-find
 sub-find c = search needs
@@ -63,7 +63,7 @@ returns c =
     let start = counted .before in
     let P = points (start .args .xs .now) (start .args .ys .now) in
     let met : c .before .find .result ≡ metAt P (start .args .r) (length (start .args .xs .now)) = c .before .find .ensures ∙ (λ i. metAt (points (whole-x start i) (whole-y start i)) (widened .wide .ensures i) (length (whole-x start i))) in
-    c .found .ensures ∙ settled P (start .args .r) (counted .blocks2 .result) (counted .blocks2 .ensures) (length (start .args .xs .now)) (c .before .find .result) (size start) met
+    c .found .ensures ∙ settled P (start .args .r) (counted .around .result) (counted .around .ensures) (length (start .args .xs .now)) (c .before .find .result) (size start) met
 
 off-requires : tie.Need-off-requires
 off-requires c κs = search needs
@@ -72,13 +72,13 @@ returns-2 : tie.Need-returns-2
 returns-2 c =
     let counted = c .before .before .before in
     let start = counted .before in
-    c .off .ensures ∙ clear-off (points (start .args .xs .now) (start .args .ys .now)) (start .args .r) (counted .blocks2 .result) (counted .blocks2 .ensures) (omega (arith, c .before .if1 .left))
+    c .off .ensures ∙ clear-off (points (start .args .xs .now) (start .args .ys .now)) (start .args .r) (counted .around .result) (counted .around .ensures) (omega (arith, c .before .if1 .left))
 
 pub locate-on-spec : {M : Type 1} → statement M
 locate-on-spec =
     tie.close
     (tie.spec
-    blocks-requires
+    around-requires
     sub-find
     part-find-start
     part-find-end

@@ -1,0 +1,10 @@
+/* Batches of reports, of every size up to ANSWERS_SMALL_BATCH and of a larger one, on one register each. */
+#ifndef BATCHES_H
+#define BATCHES_H
+
+/* Small rings all over a land, so that an index leaves most of them out. */
+void batches_on_scattered_districts(void);
+
+void batches_on_every_make(void);
+
+#endif
