@@ -13,8 +13,8 @@ use Rattle.room.proofs.Written.{tail-only, tail-of}
 use lib.ListN.{length, getD, set, take, drop, length-append}
 use Rattle.ring.specs.declared.Point.{Point}
 use Rattle.ring.specs.Grid.{point}
-use Rattle.districts.specs.Answers.{Belongs, border, one, none, several, Answer, report, refused}
-use Rattle.ring.specs.Locate.{Touch, vertex, edge}
+use Rattle.districts.specs.Answers.{border, one, none, several, Answer, report, refused}
+use Rattle.ring.specs.Locate.{vertex, edge}
 use borrow.Author.Tests.{not-false, ltb-false}
 use Rattle.refusals.specs.Verdicts.{_if_, Verdict, accept, verdict}
 use Rattle.refusals.proofs.Verdicts.{accepted, passes, passed-all}

@@ -30,7 +30,7 @@ answersTo f xs (suc n) = answersTo f xs n ++ told (answerCode (f (point (getD xs
 abbrev pub answerBy : List ℤ → List ℤ → List ℕ → Point → Answer
 answerBy sx sy runs R = given (verdict (pointTests (R .x) (R .y))) (report 0 (sortedBy (λ d. liesTo R (district (points sx sy) runs d))))
 
--- a list of p numbers that are no points is refused by 4, then a list for a answers' numbers that is too short by 28
+-- 4: a list of points of odd length p; then 28: a list of answers, of length a, with fewer than nine numbers for each point
 abbrev pub roomTests : ℕ → ℕ → List Test
 roomTests p a = (4 if eqb (p % 2) 1) ∷ (28 if ltb (a / 9) (p / 2)) ∷ []
 

@@ -11,7 +11,6 @@ use lib.Signed.{ltZ, leZ}
 use Rattle.ring.specs.Choices.{pick}
 use Rattle.columns.specs.Walk.{Beside}
 use Rattle.districts.specs.Lists.{firstPlace, size, part}
-use Rattle.index.specs.declared.bounds.Bound.{Bound}
 use Rattle.index.specs.declared.bands.Axis as Code
 
 -- a column with the runs of all districts in it

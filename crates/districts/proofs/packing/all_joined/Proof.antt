@@ -1,7 +1,7 @@
 -- `districts::packing::all_joined` asks one number after the other. The invariant: the test so far is that of the numbers below d, and `seen` is what they have together. Assumes nothing.
 use Prim.Native.Nat.{_-_, _≤_, _<_}
 use native.Mathlib.Omega.{arith}
-use mathlib.Core.Path.{_≡_, refl, _∙_}
+use mathlib.Core.Path.{_≡_, _∙_}
 use borrow.Author.Needs.{needs}
 use borrow.Author.Tests.{eq-eqb}
 use Rattle.districts.specs.Counts.{allTo, sumTo}

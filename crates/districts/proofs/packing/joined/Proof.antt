@@ -1,6 +1,6 @@
 -- `districts::packing::joined` asks where d's run ends. Assumes nothing.
 use Prim.Native.Nat.{_+_}
-use mathlib.Core.Path.{_≡_, ap, _∙_}
+use mathlib.Core.Path.{ap, _∙_}
 use mathlib.Core.Bool.{_||_}
 use lib.Dec.{eqb}
 use borrow.Author.Needs.{needs}

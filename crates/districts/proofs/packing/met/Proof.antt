@@ -1,5 +1,5 @@
 -- `districts::packing::met` reads the table below the end of all. Assumes nothing.
-use mathlib.Core.Path.{sym, _∙_}
+use mathlib.Core.Path.{sym}
 use borrow.Author.Needs.{needs}
 use borrow.Author.Tests.{lt-ltb, le-ltb}
 use Rattle.ring.proofs.Pick.{pick-true, pick-false}

@@ -1,14 +1,14 @@
 -- `exports::batches::answer_all`: after i points their answers stand at the front, and behind them what was there. Assumes nothing.
-use Prim.Native.Nat.{ℕ, _+_, _*_, _-_, _/_, _^_, _≤_, _<_}
+use Prim.Native.Nat.{_+_, _*_, _-_, _/_, _^_, _≤_, _<_}
 use native.Mathlib.Omega.{arith}
 use native.Mathlib.Nat.{div-mul-le-self}
-use mathlib.Core.Path.{_≡_, refl, sym, ap, subst, _∙_}
-use mathlib.Core.List.{List, _++_}
+use mathlib.Core.Path.{_≡_, refl, ap, _∙_}
+use mathlib.Core.List.{_++_}
 use lib.ListN.{length, drop, length-drop}
 use borrow.Author.Needs.{needs}
 use Rattle.room.proofs.Written.{tail-of}
 use Rattle.exports.specs.Batches.{answersTo, answerBy}
-use Rattle.exports.proofs.Batched.{answers-none, answers-more, answers-long}
+use Rattle.exports.proofs.Batched.{answers-none, answers-more}
 use Rattle.exports.proofs.batches.answer_all.Statement.{statement}
 use Rattle.exports.proofs.batches.answer_all.Tie as tie
 

@@ -4,7 +4,6 @@ use native.Mathlib.Decide.{decLt}
 use native.Mathlib.Omega.{arith}
 use mathlib.Core.Path.{_≡_, ap}
 use lib.Pow.{shr-lt}
-use borrow.Author.Needs.{needs}
 use Rattle.index.proofs.bands.shift.Statement.{statement}
 use Rattle.index.proofs.bands.shift.Tie as tie
 

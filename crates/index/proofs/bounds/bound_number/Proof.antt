@@ -7,7 +7,7 @@ use lib.ListN.{length, getD, take, drop}
 use mir.Syntax.{w32}
 use mir.Val.{toZ, ofZ}
 use borrow.Author.Needs.{needs}
-use Rattle.districts.specs.Lists.{firstPlace, size, part}
+use Rattle.districts.specs.Lists.{size, part}
 use Rattle.districts.proofs.Lent.{cut, part-length}
 use Rattle.index.specs.Axis.{run, From, UpTo, Bounded}
 use Rattle.index.proofs.Order.{le-refl}

@@ -10,8 +10,7 @@ use lib.Bits.{bitOr}
 use lib.ListN.{length, getD, set, length-set}
 use lib.Pow.{pow-lt}
 use lib.Seq.{getD-set-same, getD-set-other}
-use borrow.Author.Needs.{needs}
-use Rattle.index.specs.Axis.{bit, Widened}
+use Rattle.index.specs.Axis.{bit}
 use Rattle.index.proofs.Bits.{or-keeps, or-adds, power-bit}
 use Rattle.index.proofs.masks.mark.Statement.{statement}
 use Rattle.index.proofs.masks.mark.Tie as tie

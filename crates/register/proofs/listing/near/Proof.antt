@@ -1,5 +1,4 @@
 -- `register::listing::near` asks the bounds along x and along y. Assumes nothing.
-use mathlib.Core.Path.{_≡_}
 use mathlib.Core.Bool.{_&&_}
 use mir.Syntax.{w32}
 use mir.Val.{SFits}

@@ -1,22 +1,17 @@
+-- `ring::grid::beyond` asks where the coordinate was moved to. Assumes nothing.
 use mir.Syntax.{w32}
 use mir.Val.{SFits}
 use mir.Facts.{toZ-ofZ}
 use borrow.Author.Needs.{needs}
 use Rattle.ring.proofs.grid.beyond.Statement.{statement}
 use Rattle.ring.proofs.grid.beyond.Tie as tie
-use Rattle.ring.proofs.grid.beyond.Reads as reads
-use Rattle.ring.proofs.grid.beyond.Lts as lts
-use Rattle.ring.proofs.grid.moved.Reads as moved-reads
 
--- src/grid.rt:33:5
 add-result : tie.Need-add-result
 add-result c = search needs
 
--- src/grid.rt:33:20
 moved-requires : tie.Need-moved-requires
 moved-requires c κs = search needs
 
--- src/grid.rt:30:1
 returns : tie.Need-returns
 returns c = let f : SFits w32 (c .moved .result) = search needs in simp (toZ-ofZ f) (simp (toZ-ofZ (c .before .fits .x)) at (c .moved .ensures))
 

@@ -1,3 +1,4 @@
+-- `ring::grid::moved`: neither way to move a coordinate goes beyond 32 bits, and both tell whether it is beyond the grid. Assumes nothing.
 use mir.Syntax.{w32}
 use mir.Val.{SFits}
 use mir.Facts.{toZ-ofZ}
@@ -5,8 +6,6 @@ use borrow.Author.Needs.{needs}
 use Rattle.ring.proofs.Moved.{Behind, behind, Down, down}
 use Rattle.ring.proofs.grid.moved.Statement.{statement}
 use Rattle.ring.proofs.grid.moved.Tie as tie
-use Rattle.ring.proofs.grid.moved.Reads as reads
-use Rattle.ring.proofs.grid.moved.Lts as lts
 
 fits : (c : tie.Start) → SFits w32 (c .args .x)
 fits c = c .fits .x
@@ -17,31 +16,24 @@ low c = behind (c .before .args .x) (fits (c .before)) (simp (toZ-ofZ (fits (c .
 high : (c : tie.Else1) → Down (c .before .args .x)
 high c = down (c .before .args .x) (fits (c .before)) (simp (toZ-ofZ (fits (c .before))) at (c .if1 .left))
 
--- src/grid.rt:23:12
 sub-if1 : tie.Need-sub-if1
 sub-if1 c = search needs
 
--- src/grid.rt:24:16
 add-result : tie.Need-add-result
 add-result c = simp (toZ-ofZ (fits (c .before))) (low c .first)
 
--- src/grid.rt:24:32
 add-result-2 : tie.Need-add-result-2
 add-result-2 c = search needs
 
--- src/grid.rt:24:16
 add-result-3 : tie.Need-add-result-3
 add-result-3 c = simp (toZ-ofZ (fits (c .before)), toZ-ofZ (low c .first)) (low c .second)
 
--- src/grid.rt:24:9
 returns : tie.Need-returns
 returns c = simp (toZ-ofZ (fits (c .before)), toZ-ofZ (low c .first), toZ-ofZ (low c .second)) (low c .told)
 
--- src/grid.rt:26:5
 add-result-4 : tie.Need-add-result-4
 add-result-4 c = simp (toZ-ofZ (fits (c .before))) (high c .fits)
 
--- src/grid.rt:20:1
 returns-2 : tie.Need-returns-2
 returns-2 c = simp (toZ-ofZ (fits (c .before)), toZ-ofZ (high c .fits)) (high c .told)
 

@@ -1,6 +1,5 @@
 -- `index::bounds::Bound::higher` picks the higher. Assumes nothing.
 use mathlib.Core.Path.{sym}
-use lib.IntN.{ℤ}
 use mir.Syntax.{w32}
 use mir.Val.{SFits}
 use mir.Facts.{toZ-ofZ}
