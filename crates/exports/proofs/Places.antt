@@ -11,7 +11,7 @@ use lib.Seq.{getD-take, getD-set-same, getD-set-other, take-set-le, take-set-lt}
 use Rattle.ring.proofs.Pick.{pick-true, pick-false}
 use Rattle.districts.specs.Answers.{Belongs, border, one, none, several, Answer, report, refused}
 use Rattle.tally.specs.Tally.{most, countOf, uncounted, full, raised}
-use Rattle.exports.specs.Counts.{counts, tallyOf, placeOf, CountedBy}
+use Rattle.exports.specs.Counts.{counts, tallyOf, placeOf, CountedBy, Raises}
 
 -- ---- a class with a count, and one without
 
@@ -91,6 +91,10 @@ counted-more r b list v long h other e =
       tally = raised-at list b v long h e ∙ sym (ap (λ f. cond f (tallyOf list) (raised (tallyOf list) b)) room);
       answer = sym (ap (λ f. cond f (refused 14) (report r b)) room);
     }
+
+-- a count that was raised, or was not
+pub raised-as : (at : ℕ) (r s : Bool) (before after : List ℕ) → r ≡ s → Raises at r before after → Raises at s before after
+raised-as at r s before after e by = subst (λ b. Raises at b before after) e by
 
 -- an answer is another of the same value
 pub counted-as : {a c b : Answer} {before after : List ℕ} → a ≡ c → CountedBy c b before after → CountedBy a b before after

@@ -2,11 +2,12 @@
 use Prim.Native.Nat.{ℕ}
 use mathlib.Core.Path.{_≡_}
 use mathlib.Core.List.{List}
-use lib.Dec.{leb}
+use mathlib.Core.Bool.{Bool}
+use lib.Dec.{eqb, leb}
 use lib.ListN.{getD, take}
 use Rattle.ring.specs.Choices.{pick}
 use Rattle.districts.specs.Register.{numbers}
-use Rattle.districts.specs.Answers.{Belongs, border, one, none, several, Answer}
+use Rattle.districts.specs.Answers.{Belongs, border, one, none, several, Answer, report, refused}
 use Rattle.tally.specs.declared.Tally.{Tally}
 use Rattle.tally.specs.Tally.{tallied, answered}
 
@@ -24,7 +25,15 @@ placeOf (one d) = pick (leb numbers d) counts d
 placeOf none = 65
 placeOf (several d n) = 66
 
+-- the same by an answer's kind and its first value, as they are told (Codes.antt)
+abbrev pub placeTold : ℕ → ℕ → ℕ
+placeTold kind first = pick (eqb kind 6) (placeOf (one first)) (pick (eqb kind 5) 64 (pick (eqb kind 7) 65 66))
+
 -- an answer a is counted in the list, and b answered
 pub record CountedBy (a b : Answer) (before after : List ℕ) : Type 0 where
   pub tally : tallyOf after ≡ tallied (tallyOf before) a
   pub answer : b ≡ answered (tallyOf before) a
+
+-- the count at a place is raised, or it is full, as r tells: so every report whose count stands there is counted, or refused by 14
+abbrev pub Raises : ℕ → Bool → List ℕ → List ℕ → Type 0
+Raises at r before after = (n : ℕ) (b : Belongs) → at ≡ placeOf b → CountedBy (report n b) (pick r (report n b) (refused 14)) before after

@@ -1,5 +1,6 @@
 // Many reports at once: the register is tested once, and an index of it is made in arrays of this call. Each answer is nine numbers of a lent list: its kind, then
-// its values.
+// its values. They are counted by those numbers, once all stand there: `place_listed` is set into the loop that answers as long as nobody else calls it.
+use crate::counting;
 use crate::telling;
 use districts::Assigned;
 use index::Axis;
@@ -9,16 +10,14 @@ use ring::Point;
 ghost use mathlib.Core.Path.{_≡_};
 ghost use mathlib.Core.List.{_++_};
 ghost use Prim.Native.Nat.{_+_, _*_, _/_, _≤_, _<_};
-ghost use lib.IntN.{pos};
-ghost use lib.ListN.{length, getD, drop};
-ghost use Rattle.ring.specs.Grid.{point};
+ghost use lib.ListN.{length, drop};
 ghost use Rattle.districts.specs.Answers.{answerOf};
 ghost use Rattle.districts.specs.Lent.{lent, formed, means, GoodRuns};
 ghost use Rattle.refusals.specs.Verdicts.{verdict, verdictOf};
 ghost use Rattle.register.specs.Listing.{Indexed};
-ghost use Rattle.register.specs.Sorting.{assigned};
 ghost use Rattle.exports.specs.Codes.{answerCode};
-ghost use Rattle.exports.specs.Batches.{told, answersTo, answerBy, roomTests, batchTests, leftBy};
+ghost use Rattle.exports.specs.Counts.{tallyOf};
+ghost use Rattle.exports.specs.Batches.{told, pointAt, answersTo, tallyTo, countedTo, answerBy, answerIn, roomTests, batchTests, leftBy, TallyBy, batch, CountsTold, AllCounted};
 
 // How many numbers tell an answer.
 const ANSWER: usize = 9;
@@ -75,7 +74,7 @@ fn tell(a: Assigned, answers: &mut [u64])
 // Point i of a list x, y, x, y, ..
 fn point_at(points: &[i32], i: usize) -> Point
     requires { ⌜ 2 * i + 1 < length (now points) ⌝ }
-    ensures { λ r. ⌜ r ≡ point (getD (now (points .entry)) (2 * i) (pos 0)) (getD (now (points .entry)) (2 * i + 1) (pos 0)) ⌝ }
+    ensures { λ r. ⌜ r ≡ pointAt (now (points .entry)) i ⌝ }
 {
     Point {
         x: points[2 * i],
@@ -99,7 +98,7 @@ fn answer_all(
     requires { ⌜ GoodRuns (now sx) (now sy) (now runs) ⌝ }
     requires { ⌜ Indexed (now sx) (now sy) (now runs) (now bx) (now by) (now mx) (now my) ax ay ⌝ }
     requires { ⌜ 9 * (length (now points) / 2) ≤ length (now answers) ⌝ }
-    ensures { λ _. ⌜ now (answers .exit) ≡ answersTo (answerBy (now (sx .entry)) (now (sy .entry)) (now (runs .entry))) (now (points .entry)) (length (now (points .entry)) / 2) ++ drop (9 * (length (now (points .entry)) / 2)) (now (answers .entry)) ⌝ }
+    ensures { λ _. ⌜ now (answers .exit) ≡ answersTo (answerBy (now (sx .entry)) (now (sy .entry)) (now (runs .entry)) (now (points .entry))) (length (now (points .entry)) / 2) ++ drop (9 * (length (now (points .entry)) / 2)) (now (answers .entry)) ⌝ }
 {
     let n = points.len() / 2;
     let mut i = 0;
@@ -126,7 +125,7 @@ fn answer_all(
 fn answer_indexed(sx: &[i32], sy: &[i32], runs: &[u32], points: &[i32], answers: &mut [u64])
     requires { ⌜ GoodRuns (now sx) (now sy) (now runs) ⌝ }
     requires { ⌜ 9 * (length (now points) / 2) ≤ length (now answers) ⌝ }
-    ensures { λ _. ⌜ now (answers .exit) ≡ answersTo (answerBy (now (sx .entry)) (now (sy .entry)) (now (runs .entry))) (now (points .entry)) (length (now (points .entry)) / 2) ++ drop (9 * (length (now (points .entry)) / 2)) (now (answers .entry)) ⌝ }
+    ensures { λ _. ⌜ now (answers .exit) ≡ answersTo (answerBy (now (sx .entry)) (now (sy .entry)) (now (runs .entry)) (now (points .entry))) (length (now (points .entry)) / 2) ++ drop (9 * (length (now (points .entry)) / 2)) (now (answers .entry)) ⌝ }
 {
     let mut bx = [0i32; 128];
     let mut by = [0i32; 128];
@@ -147,11 +146,61 @@ pub fn assign_all(
     points: &[i32],
     answers: &mut [u64],
 ) -> Verdict
-    ensures { λ v. ⌜ (verdictOf v ≡ verdict (batchTests (formed (lent (now (ox .entry)) (now (oy .entry)) (now (sx .entry)) (now (sy .entry)) (now (runs .entry)))) (means (lent (now (ox .entry)) (now (oy .entry)) (now (sx .entry)) (now (sy .entry)) (now (runs .entry)))) (length (now (points .entry))) (length (now (answers .entry))))) × (now (answers .exit) ≡ leftBy (verdictOf v) (answersTo (λ R. assigned (formed (lent (now (ox .entry)) (now (oy .entry)) (now (sx .entry)) (now (sy .entry)) (now (runs .entry)))) (means (lent (now (ox .entry)) (now (oy .entry)) (now (sx .entry)) (now (sy .entry)) (now (runs .entry)))) 0 (R .x) (R .y)) (now (points .entry)) (length (now (points .entry)) / 2)) (now (answers .entry))) ⌝ }
+    ensures { λ v. ⌜ (verdictOf v ≡ batch (lent (now (ox .entry)) (now (oy .entry)) (now (sx .entry)) (now (sy .entry)) (now (runs .entry))) (now (points .entry)) (length (now (answers .entry)))) × (now (answers .exit) ≡ leftBy (verdictOf v) (answersTo (answerIn (lent (now (ox .entry)) (now (oy .entry)) (now (sx .entry)) (now (sy .entry)) (now (runs .entry))) (now (points .entry))) (length (now (points .entry)) / 2)) (now (answers .entry))) ⌝ }
 {
     match judged(ox, oy, sx, sy, runs, points.len(), answers.len()) {
         Verdict::Accepted => {
             answer_indexed(sx, sy, runs, points, answers);
+            Verdict::Accepted
+        }
+        Verdict::Refused(r) => Verdict::Refused(r),
+    }
+}
+
+// Counts the answer that the first numbers of a list tell, or tells refusal 14 there where its count is full.
+fn count_told(answers: &mut [u64], counts: &mut [u32; 67])
+    requires { ⌜ 9 ≤ length (now answers) ⌝ }
+    ensures { λ _. ⌜ CountsTold (now (answers .entry)) (now (answers .exit)) (now (counts .entry)) (now (counts .exit)) ⌝ }
+{
+    let kind = answers[0];
+    if kind == telling::REFUSED as u64 {
+        return;
+    }
+    let first = answers[1];
+    if counting::raise(counting::place_told(kind, first), counts) {
+        return;
+    }
+    tell(Assigned::Refused(Refusal::CountFull), answers);
+}
+
+// Counts the first n answers that a list tells, each behind those before it.
+fn count_all(n: usize, answers: &mut [u64], counts: &mut [u32; 67])
+    requires { ⌜ 9 * n ≤ length (now answers) ⌝ }
+    ensures { λ _. ⌜ AllCounted n (now (answers .entry)) (now (answers .exit)) (now (counts .entry)) (now (counts .exit)) ⌝ }
+{
+    let mut i = 0;
+    while i < n {
+        count_told(&mut answers[ANSWER * i..], counts);
+        i += 1;
+    }
+}
+
+// Answers every point and then counts the answers, or refuses all of it.
+pub fn assign_all_counted(
+    ox: &[i32],
+    oy: &[i32],
+    sx: &[i32],
+    sy: &[i32],
+    runs: &[u32],
+    points: &[i32],
+    answers: &mut [u64],
+    counts: &mut [u32; 67],
+) -> Verdict
+    ensures { λ v. ⌜ (verdictOf v ≡ batch (lent (now (ox .entry)) (now (oy .entry)) (now (sx .entry)) (now (sy .entry)) (now (runs .entry))) (now (points .entry)) (length (now (answers .entry)))) × (now (answers .exit) ≡ leftBy (verdictOf v) (answersTo (countedTo (tallyOf (now (counts .entry))) (answerIn (lent (now (ox .entry)) (now (oy .entry)) (now (sx .entry)) (now (sy .entry)) (now (runs .entry))) (now (points .entry)))) (length (now (points .entry)) / 2)) (now (answers .entry))) × TallyBy (verdictOf v) (tallyTo (tallyOf (now (counts .entry))) (answerIn (lent (now (ox .entry)) (now (oy .entry)) (now (sx .entry)) (now (sy .entry)) (now (runs .entry))) (now (points .entry))) (length (now (points .entry)) / 2)) (now (counts .entry)) (now (counts .exit)) ⌝ }
+{
+    match assign_all(ox, oy, sx, sy, runs, points, answers) {
+        Verdict::Accepted => {
+            count_all(points.len() / 2, answers, counts);
             Verdict::Accepted
         }
         Verdict::Refused(r) => Verdict::Refused(r),

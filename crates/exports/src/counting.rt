@@ -1,4 +1,5 @@
 // The tally as a list of counts, raised in place.
+use crate::telling;
 use districts::Assigned;
 use districts::Class;
 use districts::NUMBERS;
@@ -8,7 +9,7 @@ ghost use mathlib.Core.Path.{_≡_};
 ghost use Prim.Native.Nat.{_≤_};
 ghost use lib.ListN.{length};
 ghost use Rattle.districts.specs.Answers.{one, belongs, answerOf};
-ghost use Rattle.exports.specs.Counts.{counts, placeOf, CountedBy};
+ghost use Rattle.exports.specs.Counts.{counts, placeOf, placeTold, CountedBy, Raises};
 
 const BORDER: usize = 64;
 
@@ -36,21 +37,48 @@ fn place(c: Class) -> usize
     }
 }
 
+// By an answer's kind, which is not that of a refusal, and its first value, as they are told.
+pub fn place_told(kind: u64, first: u64) -> usize
+    ensures { λ r. ⌜ (r ≡ placeTold kind first) × (r ≤ counts) ⌝ }
+{
+    if kind == telling::ONE as u64 {
+        return place_of_one(first as usize);
+    }
+    if kind == telling::BORDER as u64 {
+        return BORDER;
+    }
+    if kind == telling::NONE as u64 {
+        NONE
+    } else {
+        SEVERAL
+    }
+}
+
+// Raises the count at a place. False where it is full or there is none, and then nothing is raised.
+pub fn raise(at: usize, list: &mut [u32]) -> bool
+    requires { ⌜ (length (now list) ≡ counts) × (at ≤ counts) ⌝ }
+    ensures { λ r. ⌜ Raises at r (now (list .entry)) (now (list .exit)) ⌝ }
+{
+    if at == COUNTS {
+        return false;
+    }
+    let n = list[at];
+    if n == tally::MOST {
+        return false;
+    }
+    list[at] = n + 1;
+    true
+}
+
 fn sorted(report: Report, list: &mut [u32]) -> Assigned
     requires { ⌜ length (now list) ≡ counts ⌝ }
     ensures { λ r. ⌜ CountedBy (answerOf (Assigned.Sorted report)) (answerOf r) (now (list .entry)) (now (list .exit)) ⌝ }
 {
     let class = report.class;
-    let at = place(class);
-    if at == COUNTS {
-        return Assigned::Refused(Refusal::CountFull);
+    if raise(place(class), list) {
+        return Assigned::Sorted(report);
     }
-    let n = list[at];
-    if n == tally::MOST {
-        return Assigned::Refused(Refusal::CountFull);
-    }
-    list[at] = n + 1;
-    Assigned::Sorted(report)
+    Assigned::Refused(Refusal::CountFull)
 }
 
 // Counts an assigned report, and answers it, or refusal 14 where its count is full. A refusal passes through and is not counted.

@@ -14,7 +14,7 @@ ghost use Rattle.register.specs.Sorting.{assigned};
 ghost use Rattle.fixes.specs.Millimetres.{placed};
 ghost use Rattle.register.specs.Placing.{assignedAt};
 ghost use Rattle.exports.specs.Codes.{placeCode, answerCode, Tells};
-ghost use Rattle.exports.specs.Batches.{BatchTells};
+ghost use Rattle.exports.specs.Batches.{BatchTells, BatchCounts};
 ghost use Rattle.exports.specs.Calls.{FoundTells, SplitTells, MergeTells, CountTells, PlaceTells};
 
 // Where a point lies against one ring.
@@ -146,6 +146,27 @@ pub extern "C" fn launchramp_assign_all(
 {
     telling::judged(
         batches::assign_all(ox, oy, sx, sy, runs, points, answers),
+        values,
+    )
+}
+
+// The same, and counts each in a tally, as launchramp_assign_counted does point after point.
+#[no_mangle]
+pub extern "C" fn launchramp_assign_all_counted(
+    ox: &[i32],
+    oy: &[i32],
+    sx: &[i32],
+    sy: &[i32],
+    runs: &[u32],
+    points: &[i32],
+    answers: &mut [u64],
+    counts: &mut [u32; 67],
+    values: &mut Values,
+) -> u32
+    ensures { λ r. ⌜ BatchCounts r (now (values .exit)) (lent (now (ox .entry)) (now (oy .entry)) (now (sx .entry)) (now (sy .entry)) (now (runs .entry))) (now (points .entry)) (now (answers .entry)) (now (answers .exit)) (now (counts .entry)) (now (counts .exit)) ⌝ }
+{
+    telling::judged(
+        batches::assign_all_counted(ox, oy, sx, sy, runs, points, answers, counts),
         values,
     )
 }

@@ -21,7 +21,7 @@ ghost use Rattle.exports.specs.Calls.{PlaceTells};
 // What an answer's values are written to; include/launchramp.h has their number too.
 pub type Values = [u64; 8];
 
-const REFUSED: u32 = 0;
+pub const REFUSED: u32 = 0;
 
 const DONE: u32 = 1;
 
@@ -31,11 +31,11 @@ const EDGE: u32 = 3;
 
 const OFF: u32 = 4;
 
-const BORDER: u32 = 5;
+pub const BORDER: u32 = 5;
 
-const ONE: u32 = 6;
+pub const ONE: u32 = 6;
 
-const NONE: u32 = 7;
+pub const NONE: u32 = 7;
 
 const SEVERAL: u32 = 8;
 

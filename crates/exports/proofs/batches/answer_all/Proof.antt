@@ -1,44 +1,40 @@
 -- `exports::batches::answer_all`: after i points their answers stand at the front, and behind them what was there. Assumes nothing.
-use Prim.Native.Nat.{_+_, _*_, _-_, _/_, _^_, _≤_, _<_}
+use Prim.Native.Nat.{_*_, _+_, _-_, _^_, _≤_, _<_}
 use native.Mathlib.Omega.{arith}
 use native.Mathlib.Nat.{div-mul-le-self}
-use mathlib.Core.Path.{_≡_, refl, ap, _∙_}
-use mathlib.Core.List.{_++_}
-use lib.ListN.{length, drop, length-drop}
+use mathlib.Core.Path.{ap, _∙_}
+use lib.ListN.{length}
 use borrow.Author.Needs.{needs}
-use Rattle.room.proofs.Written.{tail-of}
-use Rattle.exports.specs.Batches.{answersTo, answerBy}
-use Rattle.exports.proofs.Batched.{answers-none, answers-more}
+use Rattle.exports.specs.Batches.{answerTo, answerBy}
+use Rattle.exports.proofs.Batched.{one-room, one-tail, Answered, answered-none, answered-more, answered-all}
 use Rattle.exports.proofs.batches.answer_all.Statement.{statement}
 use Rattle.exports.proofs.batches.answer_all.Tie as tie
 
 abbrev Inv-loop : tie.InvT-loop
-Inv-loop sx sy runs bx by mx my ax ay points answers₀ n i₀ answers i = (i ≤ n) × (answers ≡ answersTo (answerBy sx sy runs) points i ++ drop (9 * i) answers₀) × (length answers ≡ length answers₀)
+Inv-loop sx sy runs bx by mx my ax ay points answers₀ n i₀ answers i = Answered (answerBy sx sy runs points) n i answers₀ answers
 
 abbrev μ-loop : tie.MeasureT-loop
 μ-loop sx sy runs bx by mx my ax ay points answers₀ n i₀ answers i = n - i
 
 loop-holds : tie.Need-loop-holds Inv-loop μ-loop
-loop-holds c = (omega arith, answers-none _ _ _, refl)
+loop-holds c = answered-none _ _ _
+
+abbrev start : tie.At-loop Inv-loop μ-loop → tie.Start Inv-loop μ-loop
+start turn = turn .before .before .before .before .before
 
 -- there is room for one answer more
 room : (c : tie.In-loop Inv-loop μ-loop) → 9 * c .before .loop .i + 9 ≤ length (c .before .loop .answers)
-room c =
-    let s = c .before .before .before .before .before .before in
-    omega (arith, c .loop-test .taken, c .before .loop .inv .2, s .pre .1 .1)
+room c = one-room _ _ (start (c .before) .args .answers .now) (c .before .loop .answers) (c .before .loop .inv .long) (start (c .before) .pre .1 .1) (c .loop-test .taken)
 
 -- and a list is no longer than memory
 small : (c : tie.In-loop Inv-loop μ-loop) → length (c .before .loop .answers) * 8 < 2 ^ 64
 small c = search needs
 
 point-at-requires : tie.Need-point-at-requires Inv-loop μ-loop
-point-at-requires c κs =
-    let s = c .before .before .before .before .before .before in
-    let n = length (s .args .points .now) in
-    omega (arith, c .loop-test .taken, div-mul-le-self n 2)
+point-at-requires c κs = omega (arith, c .loop-test .taken, div-mul-le-self (length (start (c .before) .args .points .now)) 2)
 
 place-listed-requires : tie.Need-place-listed-requires Inv-loop μ-loop
-place-listed-requires c κs = let s = c .before .before .before .before .before .before .before in (s .pre .0, s .pre .1 .0)
+place-listed-requires c κs = let s = start (c .before .before) in (s .pre .0, s .pre .1 .0)
 
 mul-tell : tie.Need-mul-tell Inv-loop μ-loop
 mul-tell c = omega (arith, room (c .before .before), small (c .before .before))
@@ -59,10 +55,10 @@ tell-requires : tie.Need-tell-requires Inv-loop μ-loop
 tell-requires c κs =
     let test = c .before .before .before in
     let turn = test .before in
-    omega (arith, ap length (tail-of (turn .loop .answers) (9 * turn .loop .i)), length-drop (9 * turn .loop .i) (turn .loop .answers), room test)
+    one-tail _ _ (start turn .args .answers .now) (turn .loop .answers) (turn .loop .inv .long) (start turn .pre .1 .1) (test .loop-test .taken)
 
 add-i : tie.Need-add-i Inv-loop μ-loop
-add-i c = omega (arith, room (c .before .before .before .before .before .before), small (c .before .before .before .before .before .before))
+add-i c = let test = c .before .before .before .before .before .before in omega (arith, room test, small test)
 
 loop-less : tie.Need-loop-less Inv-loop μ-loop
 loop-less c = omega (arith, c .before .before .before .before .before .before .loop-test .taken)
@@ -73,22 +69,15 @@ loop-again c =
     let placed = told .before .before in
     let test = placed .before .before in
     let turn = test .before in
-    let s = turn .before .before .before .before .before in
-    let a = s .args in
-    let f = answerBy (a .sx .now) (a .sy .now) (a .runs .now) in
-    let is = placed .place-listed .ensures ∙ ap f (placed .before .point-at .ensures) in
-    (omega (arith, test .loop-test .taken), answers-more f (a .points .now) (turn .loop .i) (a .answers .now) (turn .loop .answers) _ _ is (turn .loop .inv .1) (told .tell .ensures), search (needs, turn .loop .inv .2))
+    let a = start turn .args in
+    let is = placed .place-listed .ensures ∙ ap (answerTo (a .sx .now) (a .sy .now) (a .runs .now)) (placed .before .point-at .ensures) in
+    answered-more _ _ _ _ _ (turn .loop .inv) _ _ (test .loop-test .taken) is (told .tell .ensures) (search (needs, turn .loop .inv .long))
 
 same-length : tie.Need-same-length Inv-loop μ-loop
-same-length c = c .before .loop .inv .2
+same-length c = c .before .loop .inv .long
 
 returns : tie.Need-returns Inv-loop μ-loop
-returns c =
-    let turn = c .before in
-    let s = turn .before .before .before .before .before in
-    let n = length (s .args .points .now) / 2 in
-    let all : turn .loop .i ≡ n = omega (arith, turn .loop .inv .0, c .loop-test .left) in
-    turn .loop .inv .1 ∙ ap (λ k. answersTo (answerBy (s .args .sx .now) (s .args .sy .now) (s .args .runs .now)) (s .args .points .now) k ++ drop (9 * k) (s .args .answers .now)) all
+returns c = let turn = c .before in answered-all _ _ _ _ _ (turn .loop .inv) (omega (arith, c .loop-test .left))
 
 pub answer-all-spec : {M : Type 1} → statement M
 answer-all-spec =

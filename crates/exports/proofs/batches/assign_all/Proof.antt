@@ -1,13 +1,10 @@
 -- `exports::batches::assign_all` answers all points unless all of it is refused. Assumes nothing.
-use Prim.Native.Nat.{_*_, _/_}
 use mathlib.Core.Path.{_≡_, refl, sym, ap, _∙_}
-use mathlib.Core.List.{_++_}
-use lib.ListN.{length, drop}
-use Rattle.refusals.specs.Verdicts.{accept, verdict, verdictOf}
-use Rattle.districts.specs.Lent.{Lists, lent, formed, means}
-use Rattle.districts.proofs.Lent.{good-runs}
-use Rattle.exports.specs.Batches.{answersTo, batchTests}
-use Rattle.exports.proofs.Batched.{answers-long, batch-begun, batch-formed, batch-room, answers-same}
+use lib.ListN.{length}
+use Rattle.refusals.specs.Verdicts.{accept, verdictOf}
+use Rattle.districts.specs.Lent.{Lists, lent}
+use Rattle.exports.specs.Batches.{batch}
+use Rattle.exports.proofs.Batched.{batch-good, batch-left}
 use borrow.Author.Needs.{needs}
 use Rattle.exports.proofs.batches.assign_all.Statement.{statement}
 use Rattle.exports.proofs.batches.assign_all.Tie as tie
@@ -23,13 +20,13 @@ enum-told c = search needs
 
 -- nothing is refused
 accepted : (c : tie.After-enum-told) → let s = c .before .before .before .before .before in
-    verdict (batchTests (formed (lists s)) (means (lists s)) (length (s .args .points .now)) (length (s .args .answers .now))) ≡ accept
+    batch (lists s) (s .args .points .now) (length (s .args .answers .now)) ≡ accept
 accepted c = sym (c .before .before .judged .ensures) ∙ ap verdictOf (c .enum-told .given .1)
 
 answer-indexed-requires : tie.Need-answer-indexed-requires
 answer-indexed-requires c κs =
     let s = c .before .before .before .before .before .before in
-    (good-runs (lists s) (batch-formed (lists s) (length (s .args .points .now)) (length (s .args .answers .now)) (accepted (c .before))), batch-room (lists s) (length (s .args .points .now)) (length (s .args .answers .now)) (accepted (c .before)))
+    batch-good (lists s) (s .args .points .now) _ (accepted (c .before))
 
 enum-known-r : tie.Need-enum-known-r
 enum-known-r c = search needs
@@ -41,13 +38,8 @@ returns : tie.Need-returns
 returns c =
     let told = c .before .before .before .before in
     let s = told .before .before .before .before .before in
-    let l = lists s in
-    let xs = s .args .points .now in
-    let n = length xs / 2 in
-    let before = s .args .answers .now in
     let yes = accepted told in
-    let same = answers-same l (batch-begun l (length xs) (length before) yes) (batch-formed l (length xs) (length before) yes) in
-    (sym yes, c .before .before .answer-indexed .ensures ∙ (λ i. answersTo (same i) xs n ++ drop (9 * n) before) ∙ ap (λ k. answersTo (same 1) xs n ++ drop k before) (sym (answers-long (same 1) xs n)))
+    (sym yes, batch-left (lists s) (s .args .points .now) _ yes _ _ (c .before .before .answer-indexed .ensures))
 
 returns-2 : tie.Need-returns-2
 returns-2 c =
