@@ -43,7 +43,7 @@ extern "C" {
 #endif
 
 /* The version of the library that this header is of. */
-#define LAUNCHRAMP_VERSION "0.5.0"
+#define LAUNCHRAMP_VERSION "0.6.0"
 
 /* How long each of the four columns is, and how long the runs are. Lists of other lengths are refused by 1. */
 #define LAUNCHRAMP_COLUMN_LENGTH 2048
@@ -70,7 +70,7 @@ typedef struct launchramp_register {
 #define LAUNCHRAMP_VALUE_LOWEST 3
 #define LAUNCHRAMP_VALUE_HIGHEST 4
 
-/* An answer of launchramp_assign_all: its kind, then its values. It is LAUNCHRAMP_ANSWER_LENGTH numbers with nothing between them. */
+/* An answer of launchramp_assign_all and launchramp_assign_all_counted: its kind, then its values. It is LAUNCHRAMP_ANSWER_LENGTH numbers with nothing between them. */
 #define LAUNCHRAMP_ANSWER_LENGTH 9
 typedef struct launchramp_answer {
     uint64_t kind;
@@ -156,6 +156,14 @@ uint32_t launchramp_assign_all(const int32_t *ox, size_t ox_length, const int32_
                                const uint32_t *runs, size_t runs_length, const int32_t *points, size_t points_length,
                                uint64_t *answers, size_t answers_length, uint64_t *values);
 
+/* The same, and raises the count of each in a tally of LAUNCHRAMP_COUNTS counts: each answer is what launchramp_assign_counted gives, called point after
+ * point. A report whose count is full by then is refused in its own place, by LAUNCHRAMP_REFUSED and 14, and the others are answered and counted. Where the
+ * whole call is refused, `counts` stays as it was too. */
+uint32_t launchramp_assign_all_counted(const int32_t *ox, size_t ox_length, const int32_t *oy, size_t oy_length,
+                                       const int32_t *sx, size_t sx_length, const int32_t *sy, size_t sy_length,
+                                       const uint32_t *runs, size_t runs_length, const int32_t *points, size_t points_length,
+                                       uint64_t *answers, size_t answers_length, uint32_t *counts, uint64_t *values);
+
 /* Writes the millimetres x, y of a fix to `point`, which has two places: DONE; refusals 18, 5, and then `point` stays as it was. */
 uint32_t launchramp_millimetres(double easting, double northing, int32_t *point, uint64_t *values);
 
@@ -221,6 +229,14 @@ static inline uint32_t launchramp_assign_all_in(const launchramp_register *r, co
 {
     return launchramp_assign_all(LAUNCHRAMP_LISTS(r), points, points_length, (uint64_t *)answers,
                                  answers_count * LAUNCHRAMP_ANSWER_LENGTH, values);
+}
+
+static inline uint32_t launchramp_assign_all_counted_in(const launchramp_register *r, const int32_t *points, size_t points_length,
+                                                        launchramp_answer *answers, size_t answers_count, uint32_t *counts,
+                                                        uint64_t *values)
+{
+    return launchramp_assign_all_counted(LAUNCHRAMP_LISTS(r), points, points_length, (uint64_t *)answers,
+                                         answers_count * LAUNCHRAMP_ANSWER_LENGTH, counts, values);
 }
 
 static inline uint32_t launchramp_assign_fix_in(const launchramp_register *r, double easting, double northing, uint64_t *values)

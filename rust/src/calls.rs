@@ -168,6 +168,25 @@ mod c {
             values: *mut u64,
         ) -> u32;
 
+        pub fn launchramp_assign_all_counted(
+            ox: *const i32,
+            ox_length: usize,
+            oy: *const i32,
+            oy_length: usize,
+            sx: *const i32,
+            sx_length: usize,
+            sy: *const i32,
+            sy_length: usize,
+            runs: *const u32,
+            runs_length: usize,
+            points: *const i32,
+            points_length: usize,
+            answers: *mut u64,
+            answers_length: usize,
+            counts: *mut u32,
+            values: *mut u64,
+        ) -> u32;
+
         pub fn launchramp_millimetres(
             easting: f64,
             northing: f64,
@@ -340,8 +359,7 @@ pub fn assign_counted(lists: &Lists, x: i32, y: i32, counts: &mut [u32; COUNTS])
 
 /// The answer to the whole call, and those to the points, which mean nothing where it is refused.
 pub fn assign_all(lists: &Lists, points: &[(i32, i32)]) -> (Answer, Vec<Answer>) {
-    let points: Vec<i32> = points.iter().flat_map(|&(x, y)| [x, y]).collect();
-    let mut answers = vec![0; points.len() / 2 * ANSWER_LENGTH];
+    let (points, mut answers) = batch(points);
     let mut values = [0; VALUES];
     // SAFETY: as in `assign`; `points` and `answers` go with their own lengths, and `answers` is this
     // function's own, so no other list overlaps it.
@@ -356,8 +374,42 @@ pub fn assign_all(lists: &Lists, points: &[(i32, i32)]) -> (Answer, Vec<Answer>)
             values.as_mut_ptr()
         )
     };
-    let each = answers.chunks_exact(ANSWER_LENGTH).map(told).collect();
-    (Answer { kind, values }, each)
+    (Answer { kind, values }, each(&answers))
+}
+
+/// The same with a tally, which stays as it was where the whole call is refused.
+pub fn assign_all_counted(
+    lists: &Lists,
+    points: &[(i32, i32)],
+    counts: &mut [u32; COUNTS],
+) -> (Answer, Vec<Answer>) {
+    let (points, mut answers) = batch(points);
+    let mut values = [0; VALUES];
+    // SAFETY: as in `assign_all`; `counts` is as in `assign_counted`.
+    let kind = unsafe {
+        lend!(
+            lists.as_ptr,
+            launchramp_assign_all_counted,
+            points.as_ptr(),
+            points.len(),
+            answers.as_mut_ptr(),
+            answers.len(),
+            counts.as_mut_ptr(),
+            values.as_mut_ptr()
+        )
+    };
+    (Answer { kind, values }, each(&answers))
+}
+
+/// The points as a list x, y, x, y, .., and one with room for their answers.
+fn batch(points: &[(i32, i32)]) -> (Vec<i32>, Vec<u64>) {
+    let list = points.iter().flat_map(|&(x, y)| [x, y]).collect();
+    (list, vec![0; points.len() * ANSWER_LENGTH])
+}
+
+/// The answers from all numbers that tell them.
+fn each(answers: &[u64]) -> Vec<Answer> {
+    answers.chunks_exact(ANSWER_LENGTH).map(told).collect()
 }
 
 /// An answer from the numbers that tell it.

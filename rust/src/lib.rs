@@ -218,9 +218,35 @@ impl Register {
         &self,
         points: &[(i32, i32)],
     ) -> Result<Vec<Result<Class, Refusal>>, Refusal> {
-        let (whole, each) = calls::assign_all(&self.lists, points);
-        changed(whole)?;
-        Ok(each.into_iter().map(class).collect())
+        classes(calls::assign_all(&self.lists, points))
+    }
+
+    /// The same, and raises the count of each class: every answer is the one that
+    /// [`Register::assign_counted`] gives, called point after point. A report whose count is full by
+    /// then is refused in its own place, by CountFull, and the others are answered and counted. Where
+    /// the whole call is refused, no count changes.
+    ///
+    /// ```
+    /// use launchramp::{Class, Refusal, Register, Tally};
+    ///
+    /// let mut register = Register::new();
+    /// register.found(&[0, 0, 4, 0, 4, 4, 0, 4])?;
+    /// let mut tally = Tally::new();
+    /// let answers = register.assign_all_counted(&[(3, 1), (9, 9), (1, 3)], &mut tally)?;
+    /// assert_eq!(answers, [Ok(Class::One(0)), Ok(Class::None), Ok(Class::One(0))]);
+    /// assert_eq!((tally.one(0), tally.none()), (2, 1));
+    /// # Ok::<(), Refusal>(())
+    /// ```
+    pub fn assign_all_counted(
+        &self,
+        points: &[(i32, i32)],
+        tally: &mut Tally,
+    ) -> Result<Vec<Result<Class, Refusal>>, Refusal> {
+        classes(calls::assign_all_counted(
+            &self.lists,
+            points,
+            &mut tally.counts,
+        ))
     }
 
     /// Where a report with this position belongs.
@@ -403,6 +429,12 @@ fn class(Answer { kind, values }: Answer) -> Result<Class, Refusal> {
         }),
         _ => Err(refused(kind, first)),
     }
+}
+
+/// Of a batch: the answer to the whole call, then those to its points.
+fn classes((whole, each): (Answer, Vec<Answer>)) -> Result<Vec<Result<Class, Refusal>>, Refusal> {
+    changed(whole)?;
+    Ok(each.into_iter().map(class).collect())
 }
 
 /// At vertices or on edges, as VERTEX or EDGE tells.

@@ -256,9 +256,14 @@ fn before_an_outline() {
         register.assign_counted(BEYOND, 0, &mut tally),
         Err(Refusal::NoOutline)
     );
+    for points in [&[][..], &[(BEYOND, 0)]] {
+        assert_eq!(register.assign_all(points), Err(Refusal::NoOutline));
+        assert_eq!(
+            register.assign_all_counted(points, &mut tally),
+            Err(Refusal::NoOutline)
+        );
+    }
     assert_eq!(tally, Tally::new());
-    assert_eq!(register.assign_all(&[]), Err(Refusal::NoOutline));
-    assert_eq!(register.assign_all(&[(BEYOND, 0)]), Err(Refusal::NoOutline));
     refuses_positions(&register, |_| Refusal::NoOutline);
 }
 
@@ -415,10 +420,14 @@ fn damaged_lists() {
             register.assign_counted(3, 1, &mut tally),
             Err(Refusal::NotWellFormed)
         );
-        assert_eq!(tally, Tally::new());
         for points in [&[][..], &[(3, 1), (BEYOND, 0)]] {
             assert_eq!(register.assign_all(points), Err(Refusal::NotWellFormed));
+            assert_eq!(
+                register.assign_all_counted(points, &mut tally),
+                Err(Refusal::NotWellFormed)
+            );
         }
+        assert_eq!(tally, Tally::new());
         refuses_positions(&register, |_| Refusal::NotWellFormed);
         for d in 0..=NUMBERS {
             register.district(d);
@@ -480,6 +489,38 @@ fn many_reports_at_once() {
     }
     let again = register.assign_all(&[(2, 2); 10_000]);
     assert_eq!(again, Ok(vec![Ok(Class::One(0)); 10_000]));
+}
+
+#[test]
+fn many_reports_counted_at_once() {
+    let register = founded();
+    let mut counts = [0; COUNTS];
+    counts[0] = u32::MAX - 2;
+    let mut tally = Tally::from_counts(counts);
+    let points = [(2, 2), (9, 9), (2, 3), (BEYOND, 2), (3, 3), (4, 2), (1, 1)];
+    let answers = vec![
+        Ok(Class::One(0)),
+        Ok(Class::None),
+        Ok(Class::One(0)),
+        Err(Refusal::BeyondGrid),
+        Err(Refusal::CountFull),
+        Ok(border(0, edge(1, 1))),
+        Err(Refusal::CountFull),
+    ];
+    let mut by_one = tally.clone();
+    for (&(x, y), &answer) in points.iter().zip(&answers) {
+        let alone = register.assign_counted(x, y, &mut by_one);
+        assert_eq!(alone, answer, "({x}, {y})");
+    }
+    let all = register.assign_all_counted(&points, &mut tally);
+    assert_eq!(all, Ok(answers));
+    assert_eq!(tally, by_one);
+    assert_eq!(
+        (tally.one(0), tally.none(), tally.border(), tally.several()),
+        (u32::MAX, 1, 1, 0)
+    );
+    assert_eq!(register.assign_all_counted(&[], &mut tally), Ok(Vec::new()));
+    assert_eq!(tally, by_one);
 }
 
 #[test]

@@ -11,7 +11,7 @@ typedef char launchramp_answer_is_its_numbers[sizeof(launchramp_answer) == LAUNC
 
 bool asks_every_call(launchramp_register *r, const int32_t *ring, uint32_t *counts);
 bool changes_nothing(const launchramp_register *r, uint32_t *counts);
-bool sorts_all(const launchramp_register *r, const int32_t *ring);
+bool sorts_all(const launchramp_register *r, const int32_t *ring, uint32_t *counts);
 bool asks_every_list(struct launchramp_register *r, const int32_t *ring, uint32_t *counts);
 
 bool asks_every_call(launchramp_register *r, const int32_t *ring, uint32_t *counts)
@@ -22,7 +22,7 @@ bool asks_every_call(launchramp_register *r, const int32_t *ring, uint32_t *coun
            launchramp_millimetres(0.002, 0.002, point, values) == LAUNCHRAMP_DONE &&
            launchramp_found_in(r, ring, 8, values) == LAUNCHRAMP_DONE &&
            launchramp_split_in(r, 0, 0, 2, ring, 0, values) == LAUNCHRAMP_DONE &&
-           launchramp_merge_in(r, 0, 2, 1, 0, 1, values) == LAUNCHRAMP_DONE && changes_nothing(r, counts) && sorts_all(r, ring);
+           launchramp_merge_in(r, 0, 2, 1, 0, 1, values) == LAUNCHRAMP_DONE && changes_nothing(r, counts) && sorts_all(r, ring, counts);
 }
 
 bool changes_nothing(const launchramp_register *r, uint32_t *counts)
@@ -37,12 +37,14 @@ bool changes_nothing(const launchramp_register *r, uint32_t *counts)
            launchramp_assign_missing_in(r, values) == LAUNCHRAMP_REFUSED;
 }
 
-bool sorts_all(const launchramp_register *r, const int32_t *ring)
+bool sorts_all(const launchramp_register *r, const int32_t *ring, uint32_t *counts)
 {
     launchramp_answer answers[4];
     uint64_t values[LAUNCHRAMP_VALUES];
     return launchramp_assign_all_in(r, ring, 8, answers, 4, values) == LAUNCHRAMP_DONE && answers[3].kind == LAUNCHRAMP_BORDER &&
            answers[3].values[LAUNCHRAMP_VALUE_ON] == LAUNCHRAMP_VERTEX &&
+           launchramp_assign_all_counted_in(r, ring, 8, answers, 4, counts, values) == LAUNCHRAMP_DONE &&
+           counts[LAUNCHRAMP_COUNT_BORDER] == 4 &&
            launchramp_assign_all_in(r, ring, 8, answers, 3, values) == LAUNCHRAMP_REFUSED && values[0] == LAUNCHRAMP_LIST_TOO_SHORT;
 }
 
@@ -58,6 +60,8 @@ bool asks_every_list(struct launchramp_register *r, const int32_t *ring, uint32_
            launchramp_assign(ox, n, oy, n, sx, n, sy, n, runs, m, 2, 2, values) == LAUNCHRAMP_ONE &&
            launchramp_assign_counted(ox, n, oy, n, sx, n, sy, n, runs, m, 2, 2, counts, values) == LAUNCHRAMP_ONE &&
            launchramp_assign_all(ox, n, oy, n, sx, n, sy, n, runs, m, ring, 8, answers, 4 * LAUNCHRAMP_ANSWER_LENGTH, values) ==
+               LAUNCHRAMP_DONE &&
+           launchramp_assign_all_counted(ox, n, oy, n, sx, n, sy, n, runs, m, ring, 8, answers, 4 * LAUNCHRAMP_ANSWER_LENGTH, counts, values) ==
                LAUNCHRAMP_DONE &&
            launchramp_assign_fix(ox, n, oy, n, sx, n, sy, n, runs, m, 0.002, 0.002, values) == LAUNCHRAMP_ONE &&
            launchramp_assign_fix_counted(ox, n, oy, n, sx, n, sy, n, runs, m, 0.002, 0.002, counts, values) == LAUNCHRAMP_ONE &&
