@@ -13,7 +13,7 @@
 
 union answers answers_got, answers_expected;
 
-/* Kinds of points that are answered, then of batches. One that could be refused by a later number too is counted with MORE_WRONG. */
+/* Kinds of points that are answered, then of batches. A batch that could be refused by a later number too is counted with MORE_WRONG. */
 enum sort {
     AT_ONE_VERTEX,
     AT_VERTICES,
@@ -23,6 +23,8 @@ enum sort {
     IN_NONE,
     IN_SEVERAL,
     BEYOND,
+    COUNT_IS_FULL,
+    FULL_BETWEEN,
     EXACT_ROOM,
     MORE_ROOM,
     DAMAGED,
@@ -49,6 +51,8 @@ static const struct {
     [IN_NONE] = {"points in none", 150000},
     [IN_SEVERAL] = {"points in several", 50000},
     [BEYOND] = {"points beyond the grid", 20000},
+    [COUNT_IS_FULL] = {"points whose count is full", 50000},
+    [FULL_BETWEEN] = {"batches with such a point between others", 5000},
     [EXACT_ROOM] = {"batches with nothing behind the answers", 5000},
     [MORE_ROOM] = {"batches with numbers behind the answers", 5000},
     [DAMAGED] = {"refused by 1", 5000},
@@ -63,8 +67,8 @@ static const struct {
 
 static uint64_t came[SORTS];
 
-/* Of each small size, then of all larger ones. */
-static uint64_t sizes[ANSWERS_SMALL_BATCH + 2];
+/* Of batches that are not counted, and of those that are: of each small size, then of all larger ones. */
+static uint64_t sizes[2][ANSWERS_SMALL_BATCH + 2];
 
 void answers_lend(size_t length)
 {
@@ -103,8 +107,24 @@ static enum sort sort_of(const launchramp_answer *answer)
     case LAUNCHRAMP_SEVERAL:
         return IN_SEVERAL;
     default:
-        return BEYOND;
+        return values[0] == COUNT_FULL ? COUNT_IS_FULL : BEYOND;
     }
+}
+
+/* Whether a full count came between two reports that were counted. */
+static bool full_between(size_t many)
+{
+    bool before = false, full = false;
+    for (size_t i = 0; i < many; i++) {
+        enum sort sort = sort_of(&answers_got.each[i]);
+        if (sort == COUNT_IS_FULL)
+            full = before;
+        else if (sort != BEYOND && full)
+            return true;
+        else if (sort != BEYOND)
+            before = true;
+    }
+    return false;
 }
 
 static void count_refused(uint64_t number, bool odd, size_t missing)
@@ -125,34 +145,36 @@ static void count_refused(uint64_t number, bool odd, size_t missing)
     }
 }
 
-void answers_count(size_t points_length, size_t answers_length, const struct plain_answer *whole)
+void answers_count(size_t points_length, size_t answers_length, const struct plain_answer *whole, bool counted)
 {
     const size_t many = points_length / 2, needed = LAUNCHRAMP_ANSWER_LENGTH * many;
     if (whole->kind == LAUNCHRAMP_REFUSED) {
         count_refused(whole->values[0], points_length % 2 == 1, answers_length < needed ? needed - answers_length : 0);
         return;
     }
-    sizes[many <= ANSWERS_SMALL_BATCH ? many : ANSWERS_SMALL_BATCH + 1]++;
+    sizes[counted][many <= ANSWERS_SMALL_BATCH ? many : ANSWERS_SMALL_BATCH + 1]++;
     came[answers_length == needed ? EXACT_ROOM : MORE_ROOM]++;
+    came[FULL_BETWEEN] += full_between(many);
     for (size_t i = 0; i < many; i++)
         came[sort_of(&answers_got.each[i])]++;
 }
 
-static bool sizes_enough(void)
+static bool sizes_enough(const char *name, const uint64_t *sizes)
 {
     const uint64_t larger = sizes[ANSWERS_SMALL_BATCH + 1];
     uint64_t fewest = sizes[0];
     for (size_t many = 1; many <= ANSWERS_SMALL_BATCH; many++)
         fewest = sizes[many] < fewest ? sizes[many] : fewest;
     bool enough = fewest >= FEWEST_OF_A_SIZE && larger >= FEWEST_LARGER;
-    printf("batches; at least %d of each size up to %d, and %d larger:\n", FEWEST_OF_A_SIZE, ANSWERS_SMALL_BATCH, FEWEST_LARGER);
-    printf("  of the size that came least often %" PRIu64 "; larger %" PRIu64 "%s\n", fewest, larger, enough ? "" : " (TOO FEW)");
+    printf("  %s, of the size that came least often %" PRIu64 "; larger %" PRIu64 "%s\n", name, fewest, larger, enough ? "" : " (TOO FEW)");
     return enough;
 }
 
 bool answers_enough(void)
 {
-    bool all = sizes_enough();
+    printf("batches; at least %d of each size up to %d, and %d larger:\n", FEWEST_OF_A_SIZE, ANSWERS_SMALL_BATCH, FEWEST_LARGER);
+    bool all = sizes_enough("not counted", sizes[false]);
+    all = sizes_enough("counted", sizes[true]) && all;
     for (enum sort s = AT_ONE_VERTEX; s < SORTS; s++) {
         bool enough = came[s] >= sorts[s].fewest;
         printf("  %-44s %9" PRIu64 ", at least %" PRIu64 "%s\n", sorts[s].name, came[s], sorts[s].fewest, enough ? "" : " (TOO FEW)");

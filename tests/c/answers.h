@@ -29,8 +29,8 @@ bool answers_same(size_t length);
 /* Prints the first number that is not the same, if there is one. */
 void answers_print(size_t length);
 
-/* Counts a batch and the points that it answers. */
-void answers_count(size_t points_length, size_t answers_length, const struct plain_answer *whole);
+/* Counts a batch, whose reports are counted in a tally or not, and the points that it answers. */
+void answers_count(size_t points_length, size_t answers_length, const struct plain_answer *whole, bool counted);
 
 /* Prints what came. False, and a line that says so, where a size of batch, a kind of batch or a kind of point came too seldom to tell anything. */
 bool answers_enough(void);

@@ -5,9 +5,13 @@
 
 static struct twice town;
 
+/* The same points, not counted and then counted. */
 static void ask_batch(struct land land, size_t many)
 {
-    struct call call = made_batch(&town.rows, land, many);
+    struct call call = made_batch(ASSIGN_ALL, &town.rows, land, many);
+    both_ask(&town, &call);
+    call.which = ASSIGN_ALL_COUNTED;
+    lives_make_tally(&town);
     both_ask(&town, &call);
 }
 

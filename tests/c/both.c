@@ -13,7 +13,7 @@
 #define REFUSALS 29
 #define JUNK 0x5A5A5A5A5A5A5A5Au
 
-/* One call in so many goes by way of the struct. Tests that ask all ten calls on a register in turn give each of them its turn by this. */
+/* One call in so many goes by way of the struct. Tests that ask all eleven calls on a register in turn give each of them its turn by this. */
 #define IN_STRUCT 7
 
 uint64_t both_calls;
@@ -26,8 +26,8 @@ static uint64_t came[CALLS][KINDS + REFUSALS];
 static bool by_struct;
 static uint64_t in_struct[CALLS];
 
-const char *const both_names[CALLS] = {"locate",         "well_formed", "found",              "split",          "merge",     "assign",
-                                       "assign_counted", "assign_fix",  "assign_fix_counted", "assign_missing", "assign_all"};
+const char *const both_names[CALLS] = {"locate",     "well_formed",        "found",          "split",      "merge",             "assign", "assign_counted",
+                                       "assign_fix", "assign_fix_counted", "assign_missing", "assign_all", "assign_all_counted"};
 
 const char *const both_columns[COLUMNS] = {"outline x", "outline y", "store x", "store y"};
 
@@ -50,7 +50,18 @@ static const uint64_t named[CALLS] = {
     [ASSIGN_FIX_COUNTED] = SORTED | REFUSAL(18) | REFUSAL(14),
     [ASSIGN_MISSING] = REFUSAL(1) | REFUSAL(2) | REFUSAL(19),
     [ASSIGN_ALL] = KIND(DONE) | REFUSAL(1) | REFUSAL(2) | REFUSAL(4) | REFUSAL(28),
+    [ASSIGN_ALL_COUNTED] = KIND(DONE) | REFUSAL(1) | REFUSAL(2) | REFUSAL(4) | REFUSAL(28),
 };
+
+static bool is_batch(enum which which)
+{
+    return which == ASSIGN_ALL || which == ASSIGN_ALL_COUNTED;
+}
+
+static bool is_counted(enum which which)
+{
+    return which == ASSIGN_COUNTED || which == ASSIGN_FIX_COUNTED || which == ASSIGN_ALL_COUNTED;
+}
 
 bool both_same(struct plain_answer one, struct plain_answer other)
 {
@@ -149,18 +160,18 @@ static void print_call(const struct twice *t, const struct call *call)
     if (call->which == ASSIGN_FIX || call->which == ASSIGN_FIX_COUNTED)
         printf(", fix %.17g (%016" PRIx64 ") %.17g (%016" PRIx64 ")", call->easting, exact_bits(call->easting), call->northing,
                exact_bits(call->northing));
-    if (call->which == ASSIGN_ALL)
+    if (is_batch(call->which))
         printf(", %zu numbers for the answers", call->answers_length);
     printf("\n");
-    if (call->which == LOCATE || call->which == FOUND || call->which == SPLIT || call->which == ASSIGN_ALL)
+    if (call->which == LOCATE || call->which == FOUND || call->which == SPLIT || is_batch(call->which))
         print_list("list", call->list, call->length);
-    if (call->which == ASSIGN_ALL)
+    if (is_batch(call->which))
         answers_print(call->answers_length);
     if (call->which == LOCATE)
         return;
     print_lists("the lists before", &t->before);
     print_lists("the lists afterwards", &t->lists);
-    if (call->which != ASSIGN_COUNTED && call->which != ASSIGN_FIX_COUNTED)
+    if (!is_counted(call->which))
         return;
     print_counts("the tally afterwards", t->counts, LAUNCHRAMP_COUNTS);
     print_counts("the tally afterwards in plain C", t->plain_counts, LAUNCHRAMP_COUNTS);
@@ -202,6 +213,8 @@ static struct plain_answer plain_call(struct twice *t, const struct call *c)
         return plain_assign_missing(&t->rows);
     case ASSIGN_ALL:
         return plain_assign_all(&t->rows, c->list, c->length, answers_expected.numbers, c->answers_length);
+    case ASSIGN_ALL_COUNTED:
+        return plain_assign_all_counted(&t->rows, c->list, c->length, answers_expected.numbers, c->answers_length, t->plain_counts);
     default:
         return well_formed;
     }
@@ -241,6 +254,8 @@ static uint32_t call_on_lists(struct twice *t, const struct call *c, uint64_t *v
         return launchramp_assign_missing(LENT(l), values);
     case ASSIGN_ALL:
         return launchramp_assign_all(LENT(l), c->list, c->length, answers_got.numbers, c->answers_length, values);
+    case ASSIGN_ALL_COUNTED:
+        return launchramp_assign_all_counted(LENT(l), c->list, c->length, answers_got.numbers, c->answers_length, t->counts, values);
     default:
         return told_well_formed(launchramp_well_formed(LENT(l)), values);
     }
@@ -268,6 +283,9 @@ static uint32_t call_on_struct(struct twice *t, launchramp_register *r, const st
         return launchramp_assign_missing_in(r, values);
     case ASSIGN_ALL:
         return launchramp_assign_all_in(r, c->list, c->length, answers_got.each, c->answers_length / LAUNCHRAMP_ANSWER_LENGTH, values);
+    case ASSIGN_ALL_COUNTED:
+        return launchramp_assign_all_counted_in(r, c->list, c->length, answers_got.each, c->answers_length / LAUNCHRAMP_ANSWER_LENGTH, t->counts,
+                                                values);
     default:
         return told_well_formed(launchramp_well_formed_in(r), values);
     }
@@ -355,33 +373,40 @@ static void compare_lists(struct twice *t, const struct call *call, struct plain
         differ(t, call, "the tally afterwards", got, expected);
 }
 
-/* Whether a batch has the answer to its point i that launchramp_assign gives. */
-static bool as_assigned(const struct lists *l, const struct call *call, size_t i)
+/* Whether a batch has the answer to its point i that a call for that point alone gives, with the counts as they are by then. */
+static bool as_assigned(const struct lists *l, const struct call *call, size_t i, uint32_t *counts)
 {
     const launchramp_answer *answer = &answers_got.each[i];
+    const int32_t x = call->list[2 * i], y = call->list[2 * i + 1];
     uint64_t values[LAUNCHRAMP_VALUES];
-    return launchramp_assign(LENT(l), call->list[2 * i], call->list[2 * i + 1], values) == answer->kind &&
-           memcmp(values, answer->values, sizeof values) == 0;
+    uint32_t kind = is_counted(call->which) ? launchramp_assign_counted(LENT(l), x, y, counts, values) : launchramp_assign(LENT(l), x, y, values);
+    return kind == answer->kind && memcmp(values, answer->values, sizeof values) == 0;
 }
 
-static void compare_answers(const struct twice *t, const struct call *call, struct plain_answer got, struct plain_answer expected)
+/* `counts` is the tally before the call. */
+static void compare_answers(const struct twice *t, const struct call *call, struct plain_answer got, struct plain_answer expected, uint32_t *counts)
 {
     const size_t many = got.kind == LAUNCHRAMP_DONE ? call->length / 2 : 0;
     if (!answers_same(call->answers_length))
         differ(t, call, "the list of answers", got, expected);
     for (size_t i = 0; i < many; i++)
-        if (!as_assigned(&t->lists, call, i))
-            differ(t, call, "from launchramp_assign's answer to one of the points", got, expected);
-    answers_count(call->length, call->answers_length, &got);
+        if (!as_assigned(&t->lists, call, i, counts))
+            differ(t, call, "from the answer to one of the points alone", got, expected);
+    if (memcmp(counts, t->counts, sizeof t->counts) != 0)
+        differ(t, call, "from the tally of the points one by one", got, expected);
+    answers_count(call->length, call->answers_length, &got, is_counted(call->which));
 }
 
 struct plain_answer both_ask(struct twice *t, const struct call *call)
 {
     static int32_t lent[MOST_LIST];
     uint64_t values[LAUNCHRAMP_VALUES + 1];
+    uint32_t counts[LAUNCHRAMP_COUNTS + LISTS_SPARE];
     size_t bytes = call->length * sizeof lent[0];
-    if (call->which == ASSIGN_ALL)
+    if (is_batch(call->which)) {
         answers_lend(call->answers_length);
+        memcpy(counts, t->counts, sizeof counts);
+    }
     struct plain_answer expected = plain_call(t, call), got;
     both_calls++;
     memcpy(lent, call->list, bytes);
@@ -395,8 +420,8 @@ struct plain_answer both_ask(struct twice *t, const struct call *call)
         differ(t, call, "the lent list was changed", got, expected);
     if (call->which != LOCATE)
         compare_lists(t, call, got, expected);
-    if (call->which == ASSIGN_ALL)
-        compare_answers(t, call, got, expected);
+    if (is_batch(call->which))
+        compare_answers(t, call, got, expected, counts);
     came[call->which][outcome(got)]++;
     spans_count(t, call, &got);
     return got;

@@ -1,6 +1,6 @@
 /* One call to the library and to plain.h, compared: the answer and its values, every byte of the lists where nothing may change, and every
- * ring where something does, and then the sums of sums.h; of a batch each answer, with launchramp_assign's too. Every few calls go by way of
- * struct launchramp_register. The first difference is printed with the whole call, and ends the program with status 1. */
+ * ring where something does, and then the sums of sums.h; of a batch each answer, with that of launchramp_assign or launchramp_assign_counted too. Every few
+ * calls go by way of struct launchramp_register. The first difference is printed with the whole call, and ends the program with status 1. */
 #ifndef BOTH_H
 #define BOTH_H
 
@@ -33,6 +33,7 @@ enum which {
     ASSIGN_FIX_COUNTED,
     ASSIGN_MISSING,
     ASSIGN_ALL,
+    ASSIGN_ALL_COUNTED,
     CALLS
 };
 

@@ -55,8 +55,8 @@ static void begin(struct land land, size_t vertices)
 /* So many steps, of ten of which `splits` are splits and `merges` are merges. */
 static void live(struct land land, int steps, size_t splits, size_t merges)
 {
-    static const enum which others[] = {WELL_FORMED,    FOUND,      ASSIGN,             ASSIGN,    ASSIGN_COUNTED,
-                                        ASSIGN_COUNTED, ASSIGN_FIX, ASSIGN_FIX_COUNTED, ASSIGN_ALL};
+    static const enum which others[] = {WELL_FORMED,    FOUND,      ASSIGN,             ASSIGN,     ASSIGN_COUNTED,
+                                        ASSIGN_COUNTED, ASSIGN_FIX, ASSIGN_FIX_COUNTED, ASSIGN_ALL, ASSIGN_ALL_COUNTED};
     for (int t = 0; t < steps; t++) {
         size_t step = below(10);
         if (step < splits)

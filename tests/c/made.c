@@ -303,7 +303,7 @@ static size_t answers_room(size_t many)
     return once_in(2) ? exact : exact + 1 + below(ANSWERS_MOST_MORE);
 }
 
-struct call made_batch(const struct plain_register *g, struct land land, size_t many)
+struct call made_batch(enum which which, const struct plain_register *g, struct land land, size_t many)
 {
     points.length = 2 * many + (once_in(12) ? 1 : 0);
     for (size_t i = 0; 2 * i < points.length; i++) {
@@ -312,7 +312,7 @@ struct call made_batch(const struct plain_register *g, struct land land, size_t 
         points.at[2 * i] = once_in(4) ? report_point(g, land).x : r.x;
         points.at[2 * i + 1] = r.y;
     }
-    struct call call = {.which = ASSIGN_ALL, .list = points.at, .length = points.length, .answers_length = answers_room(many)};
+    struct call call = {.which = which, .list = points.at, .length = points.length, .answers_length = answers_room(many)};
     return call;
 }
 
@@ -354,7 +354,8 @@ struct call made_call(enum which which, const struct plain_register *g, struct l
     case WELL_FORMED:
         return well_formed;
     case ASSIGN_ALL:
-        return made_batch(g, land, batch_size());
+    case ASSIGN_ALL_COUNTED:
+        return made_batch(which, g, land, batch_size());
     default:
         return make_report(which, g, land);
     }

@@ -66,8 +66,9 @@ double made_metres(int32_t millimetres);
 struct call made_call(enum which which, const struct plain_register *g, struct land land);
 struct call made_founding(struct land land, size_t vertices);
 
-/* Reports at so many points, at most PLAIN_MOST_VERTICES; now and then with half a point more, or with too short a list of answers. */
-struct call made_batch(const struct plain_register *g, struct land land, size_t many);
+/* ASSIGN_ALL or ASSIGN_ALL_COUNTED: reports at so many points, at most PLAIN_MOST_VERTICES; now and then with half a point more, or with too short a list of
+ * answers. */
+struct call made_batch(enum which which, const struct plain_register *g, struct land land, size_t many);
 
 /* The merge that undoes an accepted split of a district that had so many vertices. */
 struct call made_merge_back(const struct call *split, size_t vertices, size_t made);

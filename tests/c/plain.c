@@ -313,19 +313,34 @@ static void tell(uint64_t *numbers, struct plain_answer answer)
     memcpy(numbers + 1, answer.values, sizeof answer.values);
 }
 
-struct plain_answer plain_assign_all(const struct plain_register *g, const int32_t *points, size_t length, uint64_t *answers,
-                                     size_t answers_length)
+/* How many numbers tell an answer to one of many reports. */
+#define EACH (1 + LAUNCHRAMP_VALUES)
+
+static struct plain_answer judge_all(const struct plain_register *g, size_t length, size_t answers_length)
 {
-    const size_t each = 1 + LAUNCHRAMP_VALUES, many = length / 2;
     if (g->outline.n == 0)
         return refused(NO_OUTLINE);
     if (length % 2 == 1)
         return refused(NO_RING);
-    if (each * many > answers_length)
-        return refused(LIST_TOO_SHORT);
-    for (size_t i = 0; i < many; i++)
-        tell(answers + each * i, plain_assign(g, points[2 * i], points[2 * i + 1]));
-    return told(LAUNCHRAMP_DONE, 0, 0);
+    return EACH * (length / 2) > answers_length ? refused(LIST_TOO_SHORT) : told(LAUNCHRAMP_DONE, 0, 0);
+}
+
+struct plain_answer plain_assign_all(const struct plain_register *g, const int32_t *points, size_t length, uint64_t *answers,
+                                     size_t answers_length)
+{
+    struct plain_answer whole = judge_all(g, length, answers_length);
+    for (size_t i = 0; i < length / 2 && whole.kind == LAUNCHRAMP_DONE; i++)
+        tell(answers + EACH * i, plain_assign(g, points[2 * i], points[2 * i + 1]));
+    return whole;
+}
+
+struct plain_answer plain_assign_all_counted(const struct plain_register *g, const int32_t *points, size_t length, uint64_t *answers,
+                                             size_t answers_length, uint32_t *counts)
+{
+    struct plain_answer whole = judge_all(g, length, answers_length);
+    for (size_t i = 0; i < length / 2 && whole.kind == LAUNCHRAMP_DONE; i++)
+        tell(answers + EACH * i, plain_count(counts, plain_assign(g, points[2 * i], points[2 * i + 1])));
+    return whole;
 }
 
 struct plain_answer plain_place(struct exact easting, struct exact northing, struct plain_point *point)

@@ -66,9 +66,12 @@ struct plain_answer plain_split(struct plain_register *g, size_t d, size_t i, si
 struct plain_answer plain_merge(struct plain_register *g, size_t kept, size_t a, size_t gone, size_t b, size_t k);
 struct plain_answer plain_assign(const struct plain_register *g, int32_t x, int32_t y);
 
-/* Point by point, to nine numbers of `answers` each; where all of it is refused they stay as they were. */
+/* Point by point, to nine numbers of `answers` each; where all of it is refused they stay as they were. The second counts each in a tally before it goes on to
+ * the next. */
 struct plain_answer plain_assign_all(const struct plain_register *g, const int32_t *points, size_t length, uint64_t *answers,
                                      size_t answers_length);
+struct plain_answer plain_assign_all_counted(const struct plain_register *g, const int32_t *points, size_t length, uint64_t *answers,
+                                             size_t answers_length, uint32_t *counts);
 
 struct plain_answer plain_assign_fix(const struct plain_register *g, double easting, double northing);
 struct plain_answer plain_assign_missing(const struct plain_register *g);
