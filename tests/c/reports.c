@@ -1,5 +1,5 @@
 /* reports STREAM: how long assigning takes on the reports of a stream, apart from decoding and printing. The records before the first report
- * make the register, through the library; then every report is assigned, counted in a tally, and timed. Prints the seconds. */
+ * make the register, through the library; then the reports are assigned in batches, counted in a tally, and timed. Prints the seconds. */
 #define _POSIX_C_SOURCE 200809L
 #include "launchramp.h"
 
@@ -15,10 +15,14 @@ enum { OUTLINE = 1, SPLIT = 2, REPORT = 4 };
 #define SPLIT_HEAD 10
 #define REPORT_SIZE 15
 #define PAIR 8
+/* About as many reports as the program takes from a piece of its input. */
+#define BATCH 4096
 
 static launchramp_register town;
 static uint32_t counts[LAUNCHRAMP_COUNTS];
 static int32_t pairs[2 * LAUNCHRAMP_COLUMN_LENGTH];
+static int32_t points[2 * BATCH];
+static launchramp_answer answers[BATCH];
 static uint64_t values[LAUNCHRAMP_VALUES];
 
 static size_t two(const unsigned char *at)
@@ -90,10 +94,11 @@ int main(int count, char **words)
     while (at[2] != REPORT)
         at = apply(at);
     double start = seconds();
-    for (; at < bytes + size; at += REPORT_SIZE) {
-        int32_t point[2];
-        memcpy(point, at + 7, sizeof point);
-        launchramp_assign_counted_in(&town, point[0], point[1], counts, values);
+    while (at < bytes + size) {
+        size_t n = 0;
+        for (; n < BATCH && at < bytes + size; n++, at += REPORT_SIZE)
+            memcpy(points + 2 * n, at + 7, PAIR);
+        launchramp_assign_all_counted_in(&town, points, 2 * n, answers, n, counts, values);
     }
     printf("%.3f\n", seconds() - start);
     return 0;

@@ -3,8 +3,10 @@ mod merging;
 mod splitting;
 
 pub use merging::merge;
+pub use merging::merge_known;
 use refusals::Refusal;
 pub use splitting::split;
+pub use splitting::split_known;
 
 // How many numbers the largest ring has: room for the copy of a ring, x, y, x, y, ..
 const RING_NUMBERS: usize = 4096;

@@ -8,7 +8,7 @@ ghost use Rattle.ring.specs.Grid.{vertices};
 ghost use Rattle.ring.specs.Columns.{points};
 ghost use Rattle.districts.specs.Lists.{firstPlace, size as sizeOf, part};
 ghost use Rattle.changes.specs.declared.Changed.the-variants.{Done};
-ghost use Rattle.districts.specs.Lent.{lent};
+ghost use Rattle.districts.specs.Lent.{lent, formed};
 ghost use Rattle.judging.specs.Merging.{merged};
 ghost use Rattle.changes.specs.Performing.{Pair, Joined};
 ghost use Rattle.changes.specs.Calls.{MergeBy};
@@ -90,6 +90,29 @@ fn perform(
     Changed::Done(kept)
 }
 
+// Merges district `kept` from its vertex a with district `gone` from its vertex b along k edges; answers the kept number. It is known whether the register is well-formed.
+pub fn merge_known(
+    good: bool,
+    ox: &[i32],
+    oy: &[i32],
+    sx: &mut [i32],
+    sy: &mut [i32],
+    runs: &mut [u32],
+    kept: usize,
+    a: usize,
+    gone: usize,
+    b: usize,
+    k: usize,
+) -> Changed
+    requires { ⌜ good ≡ formed (lent (now ox) (now oy) (now sx) (now sy) (now runs)) ⌝ }
+    ensures { λ r. ⌜ MergeBy r kept a gone b k (lent (now (ox .entry)) (now (oy .entry)) (now (sx .entry)) (now (sy .entry)) (now (runs .entry))) (lent (now (ox .entry)) (now (oy .entry)) (now (sx .exit)) (now (sy .exit)) (now (runs .exit))) ⌝ }
+{
+    match judging::merge(good, ox, oy, sx, sy, runs, kept, a, gone, b, k) {
+        Verdict::Accepted => perform(sx, sy, runs, kept, a, gone, b, k),
+        Verdict::Refused(r) => Changed::Refused(r),
+    }
+}
+
 // Merges district `kept` from its vertex a with district `gone` from its vertex b along k edges; answers the kept number.
 pub fn merge(
     ox: &[i32],
@@ -105,8 +128,6 @@ pub fn merge(
 ) -> Changed
     ensures { λ r. ⌜ MergeBy r kept a gone b k (lent (now (ox .entry)) (now (oy .entry)) (now (sx .entry)) (now (sy .entry)) (now (runs .entry))) (lent (now (ox .entry)) (now (oy .entry)) (now (sx .exit)) (now (sy .exit)) (now (runs .exit))) ⌝ }
 {
-    match judging::merge(ox, oy, sx, sy, runs, kept, a, gone, b, k) {
-        Verdict::Accepted => perform(sx, sy, runs, kept, a, gone, b, k),
-        Verdict::Refused(r) => Changed::Refused(r),
-    }
+    let good = districts::well_formed(ox, oy, sx, sy, runs);
+    merge_known(good, ox, oy, sx, sy, runs, kept, a, gone, b, k)
 }

@@ -9,7 +9,7 @@ ghost use Rattle.ring.specs.Columns.{points};
 ghost use Rattle.districts.specs.Lists.{firstPlace, size as sizeOf, part};
 ghost use Rattle.districts.specs.WellFormed.{total as totalOf};
 ghost use Rattle.changes.specs.declared.Changed.the-variants.{Done};
-ghost use Rattle.districts.specs.Lent.{lent};
+ghost use Rattle.districts.specs.Lent.{lent, formed};
 ghost use Rattle.judging.specs.Judging.{lowestFree};
 ghost use Rattle.judging.specs.Splitting.{pieceOne, pieceTwo};
 ghost use Rattle.changes.specs.Performing.{Divided};
@@ -79,6 +79,28 @@ fn perform(
     Changed::Done(e)
 }
 
+// Splits district d from vertex i to vertex j along a path; answers the number of the new district. It is known whether the register is well-formed.
+pub fn split_known(
+    good: bool,
+    ox: &[i32],
+    oy: &[i32],
+    sx: &mut [i32],
+    sy: &mut [i32],
+    runs: &mut [u32],
+    d: usize,
+    i: usize,
+    j: usize,
+    path: &[i32],
+) -> Changed
+    requires { ⌜ good ≡ formed (lent (now ox) (now oy) (now sx) (now sy) (now runs)) ⌝ }
+    ensures { λ r. ⌜ SplitBy r d i j (now (path .entry)) (lent (now (ox .entry)) (now (oy .entry)) (now (sx .entry)) (now (sy .entry)) (now (runs .entry))) (lent (now (ox .entry)) (now (oy .entry)) (now (sx .exit)) (now (sy .exit)) (now (runs .exit))) ⌝ }
+{
+    match judging::split(good, ox, oy, sx, sy, runs, d, i, j, path) {
+        Verdict::Accepted => perform(sx, sy, runs, d, i, j, path),
+        Verdict::Refused(r) => Changed::Refused(r),
+    }
+}
+
 // Splits district d from vertex i to vertex j along a path; answers the number of the new district.
 pub fn split(
     ox: &[i32],
@@ -93,8 +115,6 @@ pub fn split(
 ) -> Changed
     ensures { λ r. ⌜ SplitBy r d i j (now (path .entry)) (lent (now (ox .entry)) (now (oy .entry)) (now (sx .entry)) (now (sy .entry)) (now (runs .entry))) (lent (now (ox .entry)) (now (oy .entry)) (now (sx .exit)) (now (sy .exit)) (now (runs .exit))) ⌝ }
 {
-    match judging::split(ox, oy, sx, sy, runs, d, i, j, path) {
-        Verdict::Accepted => perform(sx, sy, runs, d, i, j, path),
-        Verdict::Refused(r) => Changed::Refused(r),
-    }
+    let good = districts::well_formed(ox, oy, sx, sy, runs);
+    split_known(good, ox, oy, sx, sy, runs, d, i, j, path)
 }

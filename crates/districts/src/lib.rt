@@ -13,9 +13,13 @@ pub use runs::outline_size;
 pub use runs::size;
 pub use runs::total;
 ghost use mathlib.Core.Path.{_≡_};
+ghost use mathlib.Core.Bool.{true};
+ghost use mathlib.Core.List.{List};
 ghost use Prim.Native.Nat.{_≤_};
 ghost use lib.ListN.{length};
 ghost use Rattle.districts.specs.WellFormed.{shaped as shapedLists, counted as countedRuns, total as totalOf, within};
+ghost use Rattle.ring.specs.declared.Point.{Point};
+ghost use Rattle.districts.specs.Lists.{meaning};
 ghost use Rattle.districts.specs.Lent.{lent, formed, means, beginning};
 ghost use Rattle.refusals.specs.Verdicts.{verdict, verdictOf};
 
@@ -64,17 +68,25 @@ pub fn well_formed(ox: &[i32], oy: &[i32], sx: &[i32], sy: &[i32], runs: &[u32])
     on_grid(ox, oy, outline_size(runs)) & on_grid(sx, sy, all)
 }
 
-// Refusal 1 where the lists are not well-formed, then 2 where there is no outline.
-pub fn usable(ox: &[i32], oy: &[i32], sx: &[i32], sy: &[i32], runs: &[u32]) -> Verdict
-    ensures { λ r. ⌜ verdictOf r ≡ verdict (beginning (formed (lent (now (ox .entry)) (now (oy .entry)) (now (sx .entry)) (now (sy .entry)) (now (runs .entry)))) (means (lent (now (ox .entry)) (now (oy .entry)) (now (sx .entry)) (now (sy .entry)) (now (runs .entry))))) ⌝ }
+// Refusal 1 where the lists are known not to be well-formed, then 2 where there is no outline.
+pub fn begins(good: bool, runs: &[u32]) -> Verdict
+    requires { ⌜ (good ≡ true → length (now runs) ≡ 129) ⌝ }
+    ensures { λ r. ⌜ ((outline store : List Point) → verdictOf r ≡ verdict (beginning good (meaning outline store (now (runs .entry))))) ⌝ }
 {
-    if !well_formed(ox, oy, sx, sy, runs) {
+    if !good {
         return Verdict::Refused(Refusal::NotWellFormed);
     }
     if outline_size(runs) == 0 {
         return Verdict::Refused(Refusal::NoOutline);
     }
     Verdict::Accepted
+}
+
+// Refusal 1 where the lists are not well-formed, then 2 where there is no outline.
+pub fn usable(ox: &[i32], oy: &[i32], sx: &[i32], sy: &[i32], runs: &[u32]) -> Verdict
+    ensures { λ r. ⌜ verdictOf r ≡ verdict (beginning (formed (lent (now (ox .entry)) (now (oy .entry)) (now (sx .entry)) (now (sy .entry)) (now (runs .entry)))) (means (lent (now (ox .entry)) (now (oy .entry)) (now (sx .entry)) (now (sy .entry)) (now (runs .entry))))) ⌝ }
+{
+    begins(well_formed(ox, oy, sx, sy, runs), runs)
 }
 
 fn shaped(ox: &[i32], oy: &[i32], sx: &[i32], sy: &[i32], runs: &[u32]) -> bool

@@ -14,7 +14,7 @@ ghost use lib.ListN.{length, drop};
 ghost use Rattle.districts.specs.Answers.{answerOf};
 ghost use Rattle.districts.specs.Lent.{lent, formed, means, GoodRuns};
 ghost use Rattle.refusals.specs.Verdicts.{verdict, verdictOf};
-ghost use Rattle.register.specs.Listing.{Indexed};
+ghost use Rattle.index.specs.Both.{Indexed};
 ghost use Rattle.exports.specs.Codes.{answerCode};
 ghost use Rattle.exports.specs.Counts.{tallyOf};
 ghost use Rattle.exports.specs.Batches.{told, pointAt, answersTo, tallyTo, countedTo, answerBy, answerIn, roomTests, batchTests, leftBy, TallyBy, batch, CountsTold, AllCounted};

@@ -4,3 +4,4 @@ pub mod Bits
 pub mod Bounding
 pub mod Halves
 pub mod Listing
+pub mod Fitting

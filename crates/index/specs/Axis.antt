@@ -75,6 +75,11 @@ pub record Spans (bounds : List ℤ) (a : Code.Axis) : Type 0 where
 abbrev pub bit : ℕ → ℕ → Bool
 bit mask d = eqb (mask / 2 ^ d % 2) 1
 
+-- as many bands, and no district in any
+pub record Cleared (before after : List ℕ) : Type 0 where
+  pub room : length after ≡ length before
+  pub none : (b : ℕ) → b < length after → getD after b 0 ≡ 0
+
 -- each band from the one to the other has d's bit
 abbrev pub Covers : List ℕ → ℕ → ℕ → ℕ → Type 0
 Covers masks d from to = (b : ℕ) → from ≤ b → b ≤ to → bit (getD masks b 0) d ≡ true

@@ -8,7 +8,17 @@ ghost use mathlib.Core.Bool.{true};
 ghost use Prim.Native.Nat.{ℕ, _+_, _<_};
 ghost use lib.ListN.{length};
 ghost use lib.Signed.{leZ};
-ghost use Rattle.index.specs.Axis.{lowOf, highOf, OnAxis, Spans, Widened, Marked, listed as listedBy};
+ghost use Rattle.index.specs.Axis.{lowOf, highOf, OnAxis, Spans, Cleared, Widened, Marked, listed as listedBy};
+
+pub fn clear(masks: &mut [u64])
+    ensures { λ _. ⌜ Cleared (now (masks .entry)) (now (masks .exit)) ⌝ }
+{
+    let mut b = 0;
+    while b < masks.len() {
+        masks[b] = 0;
+        b += 1;
+    }
+}
 
 // Sets d's bit from one band to another.
 fn mark(masks: &mut [u64], from: usize, to: usize, d: usize)

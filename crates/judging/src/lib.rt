@@ -1,5 +1,4 @@
-// Whether a change of the districts is refused, and why; no function changes a list. The calls for everybody are in `changes`; here only `split`
-// and `merge` have no `requires`.
+// Whether a change of the districts is refused, and why; no function changes a list. The calls for everybody are in `changes`.
 mod matching;
 mod splits;
 

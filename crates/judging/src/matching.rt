@@ -109,8 +109,9 @@ fn judge_pair(
     )
 }
 
-// Whether the merge is refused, and why.
+// Whether the merge is refused, and why, where it is known whether the register is well-formed.
 pub fn merge(
+    good: bool,
     ox: &[i32],
     oy: &[i32],
     sx: &[i32],
@@ -122,9 +123,10 @@ pub fn merge(
     b: usize,
     k: usize,
 ) -> Verdict
+    requires { ⌜ good ≡ formed (lent (now ox) (now oy) (now sx) (now sy) (now runs)) ⌝ }
     ensures { λ r. ⌜ verdictOf r ≡ verdict (mergeTests (formed (lent (now (ox .entry)) (now (oy .entry)) (now (sx .entry)) (now (sy .entry)) (now (runs .entry)))) (means (lent (now (ox .entry)) (now (oy .entry)) (now (sx .entry)) (now (sy .entry)) (now (runs .entry)))) kept a gone b k) ⌝ }
 {
-    match districts::usable(ox, oy, sx, sy, runs) {
+    match districts::begins(good, runs) {
         Verdict::Accepted => judge_pair(sx, sy, runs, kept, a, gone, b, k),
         Verdict::Refused(r) => Verdict::Refused(r),
     }

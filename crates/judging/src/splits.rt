@@ -112,8 +112,9 @@ fn judge_district(runs: &[u32], d: usize, i: usize, j: usize, path: &[i32]) -> V
     judge_cut(runs, districts::size(runs, d), i, j, path)
 }
 
-// Whether the split is refused, and why.
+// Whether the split is refused, and why, where it is known whether the register is well-formed.
 pub fn split(
+    good: bool,
     ox: &[i32],
     oy: &[i32],
     sx: &[i32],
@@ -124,9 +125,10 @@ pub fn split(
     j: usize,
     path: &[i32],
 ) -> Verdict
+    requires { ⌜ good ≡ formed (lent (now ox) (now oy) (now sx) (now sy) (now runs)) ⌝ }
     ensures { λ r. ⌜ verdictOf r ≡ verdict (splitTests (formed (lent (now (ox .entry)) (now (oy .entry)) (now (sx .entry)) (now (sy .entry)) (now (runs .entry)))) (means (lent (now (ox .entry)) (now (oy .entry)) (now (sx .entry)) (now (sy .entry)) (now (runs .entry)))) d i j (now (path .entry))) ⌝ }
 {
-    match districts::usable(ox, oy, sx, sy, runs) {
+    match districts::begins(good, runs) {
         Verdict::Accepted => judge_district(runs, d, i, j, path),
         Verdict::Refused(r) => Verdict::Refused(r),
     }

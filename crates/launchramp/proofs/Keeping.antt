@@ -50,7 +50,7 @@ broken-never false failed some e = λ i. not (e i) && some
 
 -- with the bytes that wait
 pub onward-still : (stop : Stop) (d : Reading) (input : List ℕ) (going broken failed : Bool) (e : Reading)
-    → Kept d input → e ≡ record { tally = d .tally; records = d .records; at = d .at; end = d .end; going = going; broken = broken; failed = failed }
+    → Kept d input → e ≡ record { tally = d .tally; axes = d .axes; records = d .records; at = d .at; end = d .end; going = going; broken = broken; failed = failed }
     → (going ≡ false → failed ≡ false → Closed stop (waiting d input) [] broken) → (failed ≡ true → broken ≡ false) → Onward stop d e input input
 onward-still stop d input going broken failed e kept is closed fails = subst (λ r. Onward stop d r input input) (sym is) (record {
   kept = record { taken = kept .taken; there = kept .there };
@@ -59,6 +59,7 @@ onward-still stop d input going broken failed e kept is closed fails = subst (λ
   closed = closed;
   fails = fails;
   tally = refl;
+  axes = refl;
   records = refl;
 })
 
@@ -123,7 +124,7 @@ module _ (d : Reading) (input : List ℕ) (l m : Lists) (list list′ : List ℤ
 
   -- the program behind what was printed
   abbrev pub next : Reading
-  next = record { tally = p .tally; records = p .records; at = d .at + p .at; end = d .end; going = true; broken = false; failed = false }
+  next = record { tally = p .tally; axes = p .axes; records = p .records; at = d .at + p .at; end = d .end; going = true; broken = false; failed = false }
 
   pub next-kept : Kept next input
   next-kept = record { taken = within .at; there = held .kept .there }

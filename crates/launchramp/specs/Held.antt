@@ -57,6 +57,7 @@ pub record Onward (stop : Stop) (d e : Reading) (before after : List ℕ) : Type
   pub closed : e .going ≡ false → e .failed ≡ false → Closed stop (waiting d before) more (e .broken)
   pub fails : e .failed ≡ true → e .broken ≡ false
   pub tally : e .tally ≡ d .tally
+  pub axes : e .axes ≡ d .axes
   pub records : e .records ≡ d .records
 
 -- the program stands where a piece left it, and has read some bytes since

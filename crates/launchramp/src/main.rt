@@ -3,6 +3,7 @@
 // one sentence on standard error, or by none where it read and wrote everything.
 mod ports;
 
+use index::Axes;
 use libc::STDERR_FILENO;
 use ports::written;
 use refusals::Refusal;
@@ -19,16 +20,18 @@ ghost use Rattle.districts.specs.Lent.{lent};
 ghost use Rattle.history.specs.Turns.{Fresh};
 ghost use Rattle.wording.specs.Lines.{room};
 ghost use Rattle.stream.specs.declared.Stop.the-variants.{More};
+ghost use Rattle.index.specs.Both.{index, Fitting};
 ghost use Rattle.stream.specs.Desks.{brokenLine, lastLine};
 ghost use Rattle.launchramp.specs.Held.{piece, Kept, Onward, Held, Turned, Went, lastText, Opens};
 
 // How long the two buffers are: several times the longest record.
 const PIECE: usize = 65_536;
 
-// What was read so far. The bytes from `at` to `end` of the buffer are not taken yet; `failed` once a read or a write has failed, and that was
+// What was read so far, with the tally and the axes of the index. The bytes from `at` to `end` of the buffer are not taken yet; `failed` once a read or a write has failed, and that was
 // said.
 pub struct Reading {
     pub tally: Tally,
+    pub axes: Axes,
     pub records: usize,
     pub at: usize,
     pub end: usize,
@@ -57,10 +60,12 @@ fn refilled(input: &mut [u8], d: Reading) -> Reading
     let at = d.at;
     let left = d.end - at;
     let tally = d.tally;
+    let axes = d.axes;
     shift(input, at, left);
     let filled = ports::read_behind(input, left);
     Reading {
         tally,
+        axes,
         records: d.records,
         at: 0,
         end: filled.end,
@@ -72,11 +77,13 @@ fn refilled(input: &mut [u8], d: Reading) -> Reading
 
 // The reading ended, by a broken record or else because nothing more can be written.
 fn ended(d: Reading, broken: bool) -> Reading
-    ensures { λ r. ⌜ r ≡ record { tally = d .tally; records = d .records; at = d .at; end = d .end; going = false; broken = broken; failed = not broken } ⌝ }
+    ensures { λ r. ⌜ r ≡ record { tally = d .tally; axes = d .axes; records = d .records; at = d .at; end = d .end; going = false; broken = broken; failed = not broken } ⌝ }
 {
     let tally = d.tally;
+    let axes = d.axes;
     Reading {
         tally,
+        axes,
         records: d.records,
         at: d.at,
         end: d.end,
@@ -111,10 +118,15 @@ fn turn(
     sx: &mut [i32],
     sy: &mut [i32],
     runs: &mut [u32],
+    bx: &mut [i32; 128],
+    by: &mut [i32; 128],
+    mx: &mut [u64; 64],
+    my: &mut [u64; 64],
     d: Reading,
 ) -> Reading
     requires { ⌜ Held d (now input) (lent (now ox) (now oy) (now sx) (now sy) (now runs)) ⌝ }
-    ensures { λ r. ⌜ Turned d r (now (input .entry)) (now (input .exit)) (lent (now (ox .entry)) (now (oy .entry)) (now (sx .entry)) (now (sy .entry)) (now (runs .entry))) (lent (now (ox .exit)) (now (oy .exit)) (now (sx .exit)) (now (sy .exit)) (now (runs .exit))) ⌝ }
+    requires { ⌜ Fitting (d .axes) (now sx) (now sy) (now runs) (index (now bx) (now by) (now mx) (now my)) ⌝ }
+    ensures { λ r. ⌜ Turned d r (now (input .entry)) (now (input .exit)) (lent (now (ox .entry)) (now (oy .entry)) (now (sx .entry)) (now (sy .entry)) (now (runs .entry))) (lent (now (ox .exit)) (now (oy .exit)) (now (sx .exit)) (now (sy .exit)) (now (runs .exit))) × Fitting (r .axes) (now (sx .exit)) (now (sy .exit)) (now (runs .exit)) (index (now (bx .exit)) (now (by .exit)) (now (mx .exit)) (now (my .exit))) ⌝ }
 {
     let at = d.at;
     let end = d.end;
@@ -126,15 +138,22 @@ fn turn(
         sx,
         sy,
         runs,
+        bx,
+        by,
+        mx,
+        my,
         output,
         d.tally,
+        d.axes,
         d.records,
     );
     let filled = page.filled;
     let tally = page.tally;
+    let axes = page.axes;
     let stop = page.stop;
     let next = Reading {
         tally,
+        axes,
         records: page.records,
         at: at + page.at,
         end,
@@ -154,12 +173,18 @@ fn read_all(
     sx: &mut [i32],
     sy: &mut [i32],
     runs: &mut [u32],
+    bx: &mut [i32; 128],
+    by: &mut [i32; 128],
+    mx: &mut [u64; 64],
+    my: &mut [u64; 64],
 ) -> Reading
     requires { ⌜ (length (now input) ≡ piece) × Fresh (lent (now ox) (now oy) (now sx) (now sy) (now runs)) ⌝ }
+    requires { ⌜ (length (now bx) ≡ 128) × (length (now by) ≡ 128) × (length (now mx) ≡ 64) × (length (now my) ≡ 64) ⌝ }
     ensures { λ r. ⌜ Went (lent (now (ox .entry)) (now (oy .entry)) (now (sx .entry)) (now (sy .entry)) (now (runs .entry))) r (now (input .exit)) (lent (now (ox .exit)) (now (oy .exit)) (now (sx .exit)) (now (sy .exit)) (now (runs .exit))) ⌝ }
 {
     let mut d = Reading {
         tally: Tally::new(),
+        axes: Axes::new(),
         records: 0,
         at: 0,
         end: 0,
@@ -169,7 +194,9 @@ fn read_all(
     };
     let mut turns = ports::TRIES;
     while d.going & (0 < turns) {
-        d = turn(input, output, coordinates, ox, oy, sx, sy, runs, d);
+        d = turn(
+            input, output, coordinates, ox, oy, sx, sy, runs, bx, by, mx, my, d,
+        );
         turns -= 1;
     }
     d
@@ -231,6 +258,10 @@ fn main() {
     let mut sx = [0i32; districts::COLUMN_LENGTH];
     let mut sy = [0i32; districts::COLUMN_LENGTH];
     let mut runs = [0u32; 129];
+    let mut bx = [0i32; 128];
+    let mut by = [0i32; 128];
+    let mut mx = [0u64; 64];
+    let mut my = [0u64; 64];
     let d = read_all(
         &mut input,
         &mut output,
@@ -240,6 +271,10 @@ fn main() {
         &mut sx,
         &mut sy,
         &mut runs,
+        &mut bx,
+        &mut by,
+        &mut mx,
+        &mut my,
     );
     close(&mut output, d);
 }

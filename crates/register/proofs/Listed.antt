@@ -11,7 +11,8 @@ use Rattle.districts.specs.Lent.{GoodRuns}
 use Rattle.index.specs.declared.bands.Axis.{Axis}
 use Rattle.index.specs.Axis.{within, bit, listed}
 use Rattle.index.proofs.Bits.{and-both}
-use Rattle.register.specs.Listing.{Bounding, Indexed}
+use Rattle.register.specs.Listing.{Bounding}
+use Rattle.index.specs.Both.{Indexed}
 use Rattle.register.proofs.Runs.{lies, Quiet, beside-x-quiet, beside-y-quiet}
 
 pub bounding : (sx sy : List ℤ) (runs : List ℕ) (bx by : List ℤ) (mx my : List ℕ) (ax ay : Axis) → Indexed sx sy runs bx by mx my ax ay → Bounding sx sy runs bx by

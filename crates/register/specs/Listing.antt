@@ -1,4 +1,4 @@
--- An index of a register: one along x and one along y, each with its bounds, its masks and its axis. Assumes nothing.
+-- What the bounds of an index tell of a register. Assumes nothing.
 use Prim.Native.Nat.{ℕ, _<_}
 use mathlib.Core.Path.{_≡_}
 use mathlib.Core.Bool.{false}
@@ -6,8 +6,7 @@ use mathlib.Core.List.{List}
 use lib.IntN.{ℤ}
 use lib.ListN.{length}
 use Rattle.districts.specs.Lists.{size}
-use Rattle.index.specs.declared.bands.Axis.{Axis}
-use Rattle.index.specs.Axis.{within, RunBeside, Fits}
+use Rattle.index.specs.Axis.{within, RunBeside}
 
 -- bounds along x and y: a point outside those of a district has the district beside it
 pub record Bounding (sx sy : List ℤ) (runs : List ℕ) (bx by : List ℤ) : Type 0 where
@@ -15,7 +14,3 @@ pub record Bounding (sx sy : List ℤ) (runs : List ℕ) (bx by : List ℤ) : Ty
   pub y-room : length by ≡ 128
   pub beside-x : (d : ℕ) (v : ℤ) → d < 64 → 0 < size runs d → within bx d v ≡ false → RunBeside sx runs d v
   pub beside-y : (d : ℕ) (v : ℤ) → d < 64 → 0 < size runs d → within by d v ≡ false → RunBeside sy runs d v
-
-pub record Indexed (sx sy : List ℤ) (runs : List ℕ) (bx by : List ℤ) (mx my : List ℕ) (ax ay : Axis) : Type 0 where
-  pub across : Fits sx runs bx mx ax
-  pub up : Fits sy runs by my ay

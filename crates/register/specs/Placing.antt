@@ -36,9 +36,13 @@ northOf (Grid x y) = y
 northOf (Fix f) = millimetres (f .northing)
 northOf Missing = pos 0
 
+-- refusals 19, 18, 5 in this order
+abbrev pub positionTests : Position → List Test
+positionTests p = (19 if isMissing p) ∷ (18 if notFinite p) ∷ pointTests (eastOf p) (northOf p)
+
 -- refusals 1, 2, 19, 18, 5 in this order
 abbrev pub placeTests : Bool → Register → Position → List Test
-placeTests wellFormed g p = beginning wellFormed g ++ (19 if isMissing p) ∷ (18 if notFinite p) ∷ pointTests (eastOf p) (northOf p)
+placeTests wellFormed g p = beginning wellFormed g ++ positionTests p
 
 -- the answer to report r with position p
 unfoldable pub assignedAt : Bool → Register → ℕ → Position → Answer

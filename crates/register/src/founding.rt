@@ -13,11 +13,20 @@ ghost use Rattle.register.specs.Founding.{foundTests};
 ghost use Rattle.register.specs.Calls.{placed, Wrote, FoundBy};
 ghost use Rattle.districts.specs.Lent.{lent, formed, means};
 
-// Whether founding with this ring is refused, and why.
-fn judged(ox: &[i32], oy: &[i32], sx: &[i32], sy: &[i32], runs: &[u32], ring: &[i32]) -> Verdict
+// Whether founding with this ring is refused, and why, where it is known whether the register is well-formed.
+fn judged(
+    good: bool,
+    ox: &[i32],
+    oy: &[i32],
+    sx: &[i32],
+    sy: &[i32],
+    runs: &[u32],
+    ring: &[i32],
+) -> Verdict
+    requires { ⌜ good ≡ formed (lent (now ox) (now oy) (now sx) (now sy) (now runs)) ⌝ }
     ensures { λ r. ⌜ verdictOf r ≡ verdict (foundTests (formed (lent (now (ox .entry)) (now (oy .entry)) (now (sx .entry)) (now (sy .entry)) (now (runs .entry)))) (means (lent (now (ox .entry)) (now (oy .entry)) (now (sx .entry)) (now (sy .entry)) (now (runs .entry)))) (now (ring .entry))) ⌝ }
 {
-    if !districts::well_formed(ox, oy, sx, sy, runs) {
+    if !good {
         return Verdict::Refused(Refusal::NotWellFormed);
     }
     if 0 < districts::outline_size(runs) {
@@ -61,6 +70,28 @@ fn write(
     place(runs, n);
 }
 
+// Gives an empty register its outline, and makes district 0 of the same ring; where it is known whether the register is well-formed.
+pub fn found_known(
+    good: bool,
+    ox: &mut [i32],
+    oy: &mut [i32],
+    sx: &mut [i32],
+    sy: &mut [i32],
+    runs: &mut [u32],
+    ring: &[i32],
+) -> Founded
+    requires { ⌜ good ≡ formed (lent (now ox) (now oy) (now sx) (now sy) (now runs)) ⌝ }
+    ensures { λ r. ⌜ FoundBy r (now (ring .entry)) (lent (now (ox .entry)) (now (oy .entry)) (now (sx .entry)) (now (sy .entry)) (now (runs .entry))) (lent (now (ox .exit)) (now (oy .exit)) (now (sx .exit)) (now (sy .exit)) (now (runs .exit))) ⌝ }
+{
+    match judged(good, ox, oy, sx, sy, runs, ring) {
+        Verdict::Accepted => {
+            write(ox, oy, sx, sy, runs, ring, ring.len() / 2);
+            Founded::Done
+        }
+        Verdict::Refused(r) => Founded::Refused(r),
+    }
+}
+
 // Gives an empty register its outline, and makes district 0 of the same ring.
 pub fn found(
     ox: &mut [i32],
@@ -72,11 +103,6 @@ pub fn found(
 ) -> Founded
     ensures { λ r. ⌜ FoundBy r (now (ring .entry)) (lent (now (ox .entry)) (now (oy .entry)) (now (sx .entry)) (now (sy .entry)) (now (runs .entry))) (lent (now (ox .exit)) (now (oy .exit)) (now (sx .exit)) (now (sy .exit)) (now (runs .exit))) ⌝ }
 {
-    match judged(ox, oy, sx, sy, runs, ring) {
-        Verdict::Accepted => {
-            write(ox, oy, sx, sy, runs, ring, ring.len() / 2);
-            Founded::Done
-        }
-        Verdict::Refused(r) => Founded::Refused(r),
-    }
+    let good = districts::well_formed(ox, oy, sx, sy, runs);
+    found_known(good, ox, oy, sx, sy, runs, ring)
 }

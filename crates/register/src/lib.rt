@@ -8,6 +8,8 @@ mod standing;
 
 use fixes::Fix;
 pub use founding::found;
+pub use founding::found_known;
+pub use listing::assign_listed;
 pub use listing::place_listed;
 pub use placing::assign_at;
 use refusals::Refusal;

@@ -1,4 +1,7 @@
 // Sorting a report by an index: only the districts are asked that it lists for the report's column and for its row, the lowest first.
+use crate::Position;
+use crate::placing::Spot;
+use crate::placing::spot_of;
 use crate::sorting::off_grid;
 use crate::standing::Seen;
 use crate::standing::Stance;
@@ -12,7 +15,8 @@ use index::Bound;
 use refusals::Refusal;
 use ring::Point;
 ghost use mathlib.Core.Path.{_≡_};
-ghost use mathlib.Core.Bool.{_&&_};
+ghost use mathlib.Core.Bool.{true, _&&_};
+ghost use mathlib.Core.List.{List};
 ghost use Prim.Native.Nat.{_<_};
 ghost use lib.Bits.{bitAnd};
 ghost use lib.ListN.{length};
@@ -21,8 +25,11 @@ ghost use Rattle.ring.specs.Walk.{OnGrid};
 ghost use Rattle.index.specs.Axis.{OnAxis, within, listed};
 ghost use Rattle.districts.specs.Answers.{belongs, report, answerOf};
 ghost use Rattle.districts.specs.Lent.{GoodRuns};
-ghost use Rattle.districts.specs.Lists.{district};
-ghost use Rattle.register.specs.Listing.{Bounding, Indexed};
+ghost use Rattle.districts.specs.Lists.{district, meaning};
+ghost use Rattle.ring.specs.declared.Point.{Point};
+ghost use Rattle.register.specs.Placing.{assignedAt};
+ghost use Rattle.register.specs.Listing.{Bounding};
+ghost use Rattle.index.specs.Both.{Indexed};
 ghost use Rattle.refusals.specs.Verdicts.{verdict};
 ghost use Rattle.register.specs.Sorting.{liesTo, sortedBy, pointTests, given};
 ghost use Rattle.register.specs.Standing.{Stands};
@@ -135,4 +142,31 @@ pub fn place_listed(
         number,
         class: sort_listed(sx, sy, runs, bx, by, mx, my, ax, ay, r),
     })
+}
+
+// Where report `number` with this position belongs, in a well-formed register, by an index of it.
+pub fn assign_listed(
+    sx: &[i32],
+    sy: &[i32],
+    runs: &[u32],
+    bx: &[i32],
+    by: &[i32],
+    mx: &[u64],
+    my: &[u64],
+    ax: Axis,
+    ay: Axis,
+    number: u32,
+    position: Position,
+) -> Assigned
+    requires { ⌜ GoodRuns (now sx) (now sy) (now runs) ⌝ }
+    requires { ⌜ Indexed (now sx) (now sy) (now runs) (now bx) (now by) (now mx) (now my) ax ay ⌝ }
+    ensures { λ a. ⌜ ((outline : List Point) → answerOf a ≡ assignedAt true (meaning outline (points (now (sx .entry)) (now (sy .entry))) (now (runs .entry))) number position) ⌝ }
+{
+    if districts::outline_size(runs) == 0 {
+        return Assigned::Refused(Refusal::NoOutline);
+    }
+    match spot_of(position) {
+        Spot::At(r) => place_listed(sx, sy, runs, bx, by, mx, my, ax, ay, number, r),
+        Spot::Nowhere(why) => Assigned::Refused(why),
+    }
 }

@@ -15,6 +15,7 @@ use Rattle.records.proofs.Sizes.{Size, whole-size}
 use Rattle.wording.specs.Lines.{room}
 use Rattle.wording.proofs.Laying.{joined, laid-as}
 use Rattle.stream.specs.declared.Stop.the-variants.{More}
+use Rattle.index.specs.declared.Axes.{Axes}
 use Rattle.stream.specs.declared.Page.{Page}
 use Rattle.stream.specs.Streams.{Starts}
 use Rattle.stream.specs.Desks.{Desk, deskOf, next, through, lineOf, linesFrom}
@@ -57,9 +58,9 @@ noted-more (d ∷ cs) c list = noted-more cs c (written (pairsOf d) list)
 
 -- ---- before the first turn
 
-pub printed-none : (bytes : List ℕ) (t : Tally) (n : ℕ) (list : List ℤ) (to : List ℕ) (l : Lists) → formed l ≡ true → Printed bytes (deskOf l t) n list to (record { at = 0; filled = 0; records = n; tally = t; going = true; stop = More }) l list to
+pub printed-none : (bytes : List ℕ) (t : Tally) (n : ℕ) (list : List ℤ) (to : List ℕ) (l : Lists) (x : Axes) → formed l ≡ true → Printed bytes (deskOf l t) n list to (record { at = 0; filled = 0; records = n; tally = t; axes = x; going = true; stop = More }) l list to
 unfolding through linesFrom Starts Roomy noted
-printed-none bytes t n list to l good = record {
+printed-none bytes t n list to l x good = record {
   done = [];
   starts = refl;
   there = omega arith;
@@ -126,7 +127,7 @@ module _ (bytes : List ℕ) (k : Desk) (n : ℕ) (list : List ℤ) (to : List �
         (subst (λ text. Printed bytes k n list to page l list′ text) (w .text) stays)))
       where
         page : Page
-        page = record { at = p .at; filled = p .filled; records = p .records; tally = p .tally; going = false; stop = q .stop }
+        page = record { at = p .at; filled = p .filled; records = p .records; tally = p .tally; axes = q .axes; going = false; stop = q .stop }
 
         stays : Printed bytes k n list to page l list′ now
         stays = record {

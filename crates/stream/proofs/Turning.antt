@@ -17,6 +17,7 @@ use Rattle.wording.specs.Text.{Laid}
 use Rattle.wording.specs.Lines.{Kind, outline, Said, ok, line, room}
 use Rattle.wording.proofs.Written.{line-short}
 use Rattle.stream.specs.declared.Advanced.{Advanced}
+use Rattle.index.specs.declared.Axes.{Axes}
 use Rattle.stream.specs.Replies.{replied, kindOf}
 use Rattle.stream.specs.Advancing.{Told, answered, unfinished, unreadable, toldOf, toldFor, LeftFor, talliedFor, AdvancedBy}
 use Rattle.stream.specs.declared.Stop.{Stop}
@@ -65,17 +66,20 @@ told-broken broken wellFormed g t e = refl
 
 -- ---- a turn that ends
 
-abbrev pub endedAs : Page → Stop → Page
-endedAs p s = record { at = p .at; filled = p .filled; records = p .records; tally = p .tally; going = false; stop = s }
+abbrev pub endedAs : Page → Axes → Stop → Page
+endedAs p x s = record { at = p .at; filled = p .filled; records = p .records; tally = p .tally; axes = x; going = false; stop = s }
 
-pub rests : (bytes : List ℕ) (p : Page) (l : Lists) (list : List ℤ) (to : List ℕ) (q : Page) (l′ : Lists) (list′ : List ℤ) (s : Stop) → q ≡ endedAs p s → l ≡ l′ → list ≡ list′ → Stopped s (length to - p .filled) (drop (p .at) bytes) → TurnedBy bytes p l list to q l′ list′ to
-rests bytes p l list to q l′ list′ s e same noted why = record {
+pub rests : (bytes : List ℕ) (p : Page) (l : Lists) (list : List ℤ) (to : List ℕ) (q : Page) (l′ : Lists) (list′ : List ℤ) (x : Axes) (s : Stop) → q ≡ endedAs p x s → l ≡ l′ → list ≡ list′ → Stopped s (length to - p .filled) (drop (p .at) bytes) → TurnedBy bytes p l list to q l′ list′ to
+rests bytes p l list to q l′ list′ x s e same noted why = record {
   goes = λ g. absurd (true≢false (sym g ∙ ap (λ (x : Page). x .going) e));
-  ends = λ g. record { page = e ∙ (λ i. endedAs p (stops i)); lists = same; coordinates = noted; text = refl; why = subst (λ x. Stopped x (length to - p .filled) (drop (p .at) bytes)) stops why };
+  ends = λ g. record { page = e ∙ (λ i. endedAs p (axes i) (stops i)); lists = same; coordinates = noted; text = refl; why = subst (λ x. Stopped x (length to - p .filled) (drop (p .at) bytes)) stops why };
 }
   where
+    axes : x ≡ q .axes
+    axes = sym (ap (λ (r : Page). r .axes) e)
+
     stops : s ≡ q .stop
-    stops = sym (ap (λ (x : Page). x .stop) e)
+    stops = sym (ap (λ (r : Page). r .stop) e)
 
 module _ (bytes : List ℕ) (p : Page) (before after : Lists) (r : Advanced) (lent lent′ : List ℤ) (by : AdvancedBy r (front (drop (p .at) bytes)) (p .tally) lent lent′ before after) where
   abbrev rest : List ℕ
@@ -91,10 +95,10 @@ module _ (bytes : List ℕ) (p : Page) (before after : Lists) (r : Advanced) (le
   pub tells-broken : toldOf (r .told) ≡ unreadable → front rest ≡ broken
   tells-broken e = told-broken (front rest) _ _ _ (tells unreadable e)
 
-  pub ends-with : (x : Front) (s : Stop) (q : Page) (to : List ℕ) → front rest ≡ x → (LeftFor x before after → before ≡ after) → writtenFor x ≡ [] → q ≡ endedAs p s → Stopped s (length to - p .filled) rest → TurnedBy bytes p before lent to q after lent′ to
-  ends-with x s q to there same none is why =
+  pub ends-with : (x : Front) (a : Axes) (s : Stop) (q : Page) (to : List ℕ) → front rest ≡ x → (LeftFor x before after → before ≡ after) → writtenFor x ≡ [] → q ≡ endedAs p a s → Stopped s (length to - p .filled) rest → TurnedBy bytes p before lent to q after lent′ to
+  ends-with x a s q to there same none is why =
       let left = subst (λ y. LeftFor y before after) there (by .left) in
-      rests bytes p before lent to q after lent′ s is (same left) (sym (by .coordinates ∙ ap (λ xs. written xs lent) (ap writtenFor there ∙ none))) why
+      rests bytes p before lent to q after lent′ a s is (same left) (sym (by .coordinates ∙ ap (λ xs. written xs lent) (ap writtenFor there ∙ none))) why
 
   -- ---- a turn that goes on
 

@@ -1,7 +1,7 @@
 -- What taking the record at the front of a stream's bytes answers and leaves. Assumes nothing.
 use Prim.Native.Nat.{ℕ}
 use mathlib.Core.Path.{_≡_}
-use mathlib.Core.Bool.{Bool}
+use mathlib.Core.Bool.{Bool, true}
 use mathlib.Core.List.{List}
 use lib.IntN.{ℤ}
 use Rattle.districts.specs.Register.{Register}
@@ -44,11 +44,11 @@ LeftFor (whole c n) before after = LeftBy c before after
 LeftFor more before after = before ≡ after
 LeftFor broken before after = before ≡ after
 
--- a report is answered and counted; the lists are lent unchangeable
-pub record ReportedBy (r : Advanced) (bytes number : ℕ) (p : Position) (t : Tally) (l : Lists) : Type 0 where
-  pub told : toldOf (r .told) ≡ answered (Lines.report number) (replied (formed l) (means l) t (reporting number p))
+-- a report is answered and counted, in a well-formed register
+pub record ReportedBy (r : Advanced) (bytes number : ℕ) (p : Position) (t : Tally) (g : Register) : Type 0 where
+  pub told : toldOf (r .told) ≡ answered (Lines.report number) (replied true g t (reporting number p))
   pub taken : r .taken ≡ bytes
-  pub tally : r .tally ≡ talliedBy (formed l) (means l) t (reporting number p)
+  pub tally : r .tally ≡ talliedBy true g t (reporting number p)
 
 -- the record is applied, its bytes are counted, and the lent coordinates start with its own; without a whole record nothing changes
 pub record AdvancedBy (r : Advanced) (f : Front) (t : Tally) (to to′ : List ℤ) (before after : Lists) : Type 0 where

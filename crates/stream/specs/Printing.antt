@@ -78,7 +78,7 @@ pub record Wrote (bytes : List ℕ) (p : Page) (l : Lists) (list : List ℤ) (to
 
 -- nothing is done
 pub record Rests (bytes : List ℕ) (p : Page) (l : Lists) (list : List ℤ) (to : List ℕ) (q : Page) (l′ : Lists) (list′ : List ℤ) (to′ : List ℕ) : Type 0 where
-  pub page : q ≡ record { at = p .at; filled = p .filled; records = p .records; tally = p .tally; going = false; stop = q .stop }
+  pub page : q ≡ record { at = p .at; filled = p .filled; records = p .records; tally = p .tally; axes = q .axes; going = false; stop = q .stop }
   pub lists : l ≡ l′
   pub coordinates : list ≡ list′
   pub text : to ≡ to′

@@ -4,6 +4,7 @@ use crate::Page;
 use crate::Stop;
 use crate::Told;
 use crate::advancing;
+use index::Axes;
 use tally::Tally;
 ghost use mathlib.Core.Path.{_≡_};
 ghost use mathlib.Core.Bool.{true, false};
@@ -11,10 +12,11 @@ ghost use Prim.Native.Nat.{_+_, _<_};
 ghost use lib.ListN.{length};
 ghost use Rattle.districts.specs.Lent.{lent, formed};
 ghost use Rattle.stream.specs.Desks.{deskOf};
+ghost use Rattle.index.specs.Both.{index, Fitting};
 ghost use Rattle.stream.specs.Printing.{Printed, numbers, Ready, TurnedBy};
 
-fn ended(p: Page, stop: Stop) -> Page
-    ensures { λ r. ⌜ r ≡ record { at = p .at; filled = p .filled; records = p .records; tally = p .tally; going = false; stop = stop } ⌝ }
+fn ended(p: Page, axes: Axes, stop: Stop) -> Page
+    ensures { λ r. ⌜ r ≡ record { at = p .at; filled = p .filled; records = p .records; tally = p .tally; axes = axes; going = false; stop = stop } ⌝ }
 {
     let tally = p.tally;
     Page {
@@ -22,6 +24,7 @@ fn ended(p: Page, stop: Stop) -> Page
         filled: p.filled,
         records: p.records,
         tally,
+        axes,
         going: false,
         stop,
     }
@@ -35,31 +38,53 @@ fn print_record(
     sx: &mut [i32],
     sy: &mut [i32],
     runs: &mut [u32],
+    bx: &mut [i32; 128],
+    by: &mut [i32; 128],
+    mx: &mut [u64; 64],
+    my: &mut [u64; 64],
     to: &mut [u8],
     p: Page,
 ) -> Page
     requires { ⌜ Ready (now bytes) p (lent (now ox) (now oy) (now sx) (now sy) (now runs)) (now to) ⌝ }
-    ensures { λ q. ⌜ TurnedBy (now (bytes .entry)) p (lent (now (ox .entry)) (now (oy .entry)) (now (sx .entry)) (now (sy .entry)) (now (runs .entry))) (now (coordinates .entry)) (now (to .entry)) q (lent (now (ox .exit)) (now (oy .exit)) (now (sx .exit)) (now (sy .exit)) (now (runs .exit))) (now (coordinates .exit)) (now (to .exit)) ⌝ }
+    requires { ⌜ Fitting (p .axes) (now sx) (now sy) (now runs) (index (now bx) (now by) (now mx) (now my)) ⌝ }
+    ensures { λ q. ⌜ TurnedBy (now (bytes .entry)) p (lent (now (ox .entry)) (now (oy .entry)) (now (sx .entry)) (now (sy .entry)) (now (runs .entry))) (now (coordinates .entry)) (now (to .entry)) q (lent (now (ox .exit)) (now (oy .exit)) (now (sx .exit)) (now (sy .exit)) (now (runs .exit))) (now (coordinates .exit)) (now (to .exit)) × Fitting (q .axes) (now (sx .exit)) (now (sy .exit)) (now (runs .exit)) (index (now (bx .exit)) (now (by .exit)) (now (mx .exit)) (now (my .exit))) ⌝ }
 {
     let at = p.at;
     let filled = p.filled;
     if to.len() - filled < wording::ROOM {
-        return ended(p, Stop::Full);
+        let axes = p.axes;
+        return ended(p, axes, Stop::Full);
     }
-    let r = advancing::advance(&bytes[at..], coordinates, ox, oy, sx, sy, runs, p.tally);
+    let r = advancing::advance(
+        &bytes[at..],
+        coordinates,
+        ox,
+        oy,
+        sx,
+        sy,
+        runs,
+        bx,
+        by,
+        mx,
+        my,
+        p.axes,
+        p.tally,
+    );
     let told = r.told;
     let tally = r.tally;
+    let axes = r.axes;
     match told {
         Told::Answered(kind, said) => Page {
             at: at + r.taken,
             filled: wording::line_at(to, filled, p.records, kind, said),
             records: p.records + 1,
             tally,
+            axes,
             going: true,
             stop: Stop::More,
         },
-        Told::More => ended(p, Stop::More),
-        Told::Broken => ended(p, Stop::Broken),
+        Told::More => ended(p, axes, Stop::More),
+        Told::Broken => ended(p, axes, Stop::Broken),
     }
 }
 
@@ -71,24 +96,33 @@ pub fn print(
     sx: &mut [i32],
     sy: &mut [i32],
     runs: &mut [u32],
+    bx: &mut [i32; 128],
+    by: &mut [i32; 128],
+    mx: &mut [u64; 64],
+    my: &mut [u64; 64],
     to: &mut [u8],
     tally: Tally,
+    axes: Axes,
     number: usize,
 ) -> Page
     requires { ⌜ formed (lent (now ox) (now oy) (now sx) (now sy) (now runs)) ≡ true ⌝ }
+    requires { ⌜ Fitting axes (now sx) (now sy) (now runs) (index (now bx) (now by) (now mx) (now my)) ⌝ }
     requires { ⌜ number + length (now bytes) < numbers ⌝ }
-    ensures { λ r. ⌜ Printed (now (bytes .entry)) (deskOf (lent (now (ox .entry)) (now (oy .entry)) (now (sx .entry)) (now (sy .entry)) (now (runs .entry))) tally) number (now (coordinates .entry)) (now (to .entry)) r (lent (now (ox .exit)) (now (oy .exit)) (now (sx .exit)) (now (sy .exit)) (now (runs .exit))) (now (coordinates .exit)) (now (to .exit)) × (r .going ≡ false) ⌝ }
+    ensures { λ r. ⌜ Printed (now (bytes .entry)) (deskOf (lent (now (ox .entry)) (now (oy .entry)) (now (sx .entry)) (now (sy .entry)) (now (runs .entry))) tally) number (now (coordinates .entry)) (now (to .entry)) r (lent (now (ox .exit)) (now (oy .exit)) (now (sx .exit)) (now (sy .exit)) (now (runs .exit))) (now (coordinates .exit)) (now (to .exit)) × (r .going ≡ false) × Fitting (r .axes) (now (sx .exit)) (now (sy .exit)) (now (runs .exit)) (index (now (bx .exit)) (now (by .exit)) (now (mx .exit)) (now (my .exit))) ⌝ }
 {
     let mut p = Page {
         at: 0,
         filled: 0,
         records: number,
         tally,
+        axes,
         going: true,
         stop: Stop::More,
     };
     while p.going {
-        p = print_record(bytes, coordinates, ox, oy, sx, sy, runs, to, p);
+        p = print_record(
+            bytes, coordinates, ox, oy, sx, sy, runs, bx, by, mx, my, to, p,
+        );
     }
     p
 }

@@ -29,7 +29,7 @@ slice-aggregate-read-all-7 c = search needs
 
 read-all-requires : tie.Need-read-all-requires
 unfolding listTo
-read-all-requires c κs = (refl, fresh-lists _ _ _ _ (refl, refl) (refl, refl))
+read-all-requires c κs = ((refl, fresh-lists _ _ _ _ (refl, refl) (refl, refl)), (refl, refl, refl, refl))
 
 slice-aggregate-close : tie.Need-slice-aggregate-close
 slice-aggregate-close c = search needs

@@ -26,7 +26,7 @@ returns : tie.Need-returns
 returns c =
     let reads = c .before .before .before in
     let shifts = reads .before .before .before .before in
-    let start = shifts .before .before .before .before .before in
+    let start = shifts .before .before .before .before .before .before in
     let d = start .args .d in
     let kept = start .pre in
     let left = d .end - d .at in
@@ -40,6 +40,7 @@ returns c =
       closed = λ off fine. at-end refl (read-none left (filled .end) _ (brought .ends off)) (broken-end _ _ _ off fine ∙ ap (ltb 0) (sym (part-long d (start .args .input .now) kept)));
       fails = λ f. broken-never (filled .going) (filled .failed) _ f;
       tally = refl;
+      axes = refl;
       records = refl;
     }
 

@@ -23,23 +23,20 @@ use Rattle.register.proofs.founding.judged.Tie as tie
 abbrev given : tie.Start → Lists
 given s = lent (s .args .ox .now) (s .args .oy .now) (s .args .sx .now) (s .args .sy .now) (s .args .runs .now)
 
-well-formed-requires : tie.Need-well-formed-requires
-well-formed-requires c κs = search needs
-
 returns : tie.Need-returns
-returns c = sym (stops-at 1 _ _ (ap not (sym (c .before .well-formed .ensures) ∙ not-true _ (c .if1 .taken))))
+returns c = sym (stops-at 1 _ _ (ap not (sym (c .before .before .pre) ∙ not-true _ (c .if1 .taken))))
 
-good : (c : tie.Else1) → formed (given (c .before .before .before)) ≡ true
-good c = sym (c .before .well-formed .ensures) ∙ not-false _ (c .if1 .left)
+good : (c : tie.Else1) → formed (given (c .before .before)) ≡ true
+good c = sym (c .before .before .pre) ∙ not-false _ (c .if1 .left)
 
 outline-size-requires : tie.Need-outline-size-requires
 outline-size-requires c κs =
-    runs-length (given (c .before .before .before)) (good c)
+    runs-length (given (c .before .before)) (good c)
 
 -- whether there is an outline is told by its size
-outlined : (c : tie.After-outline-size) (b : Bool) → not (eqb (c .outline-size .result) 0) ≡ b → inUse (means (given (c .before .before .before .before)) .outline) ≡ b
+outlined : (c : tie.After-outline-size) (b : Bool) → not (eqb (c .outline-size .result) 0) ≡ b → inUse (means (given (c .before .before .before)) .outline) ≡ b
 outlined c b e =
-    let l = given (c .before .before .before .before) in
+    let l = given (c .before .before .before) in
     outline-in-use (outlineOf l) (storeOf l) (l .runs) ∙ ap (λ n. not (eqb n 0)) (sym (c .outline-size .ensures .0)) ∙ e
 
 returns-2 : tie.Need-returns-2
@@ -52,7 +49,7 @@ no-ring-requires : tie.Need-no-ring-requires
 no-ring-requires c κs = search needs
 
 -- the first two tests passed
-two-passed : (c : tie.Else2) (xs : List ℤ) → verdict (foundTests (formed (given (c .before .before .before .before .before))) (means (given (c .before .before .before .before .before))) xs) ≡ verdict ((4 if noRing (length xs) (length xs / 2)) ∷ (5 if someBeyond xs) ∷ [])
+two-passed : (c : tie.Else2) (xs : List ℤ) → verdict (foundTests (formed (given (c .before .before .before .before))) (means (given (c .before .before .before .before))) xs) ≡ verdict ((4 if noRing (length xs) (length xs / 2)) ∷ (5 if someBeyond xs) ∷ [])
 two-passed c xs =
     passes 1 _ _ (ap not (good (c .before .before)))
     ∙ passes 3 _ _ (outlined (c .before) false (ap not (eq-eqb (c .before .outline-size .result) 0 (omega arith))))
@@ -60,7 +57,7 @@ two-passed c xs =
 returns-3 : tie.Need-returns-3
 returns-3 c =
     let second = c .before .before in
-    sym (two-passed second (second .before .before .before .before .before .args .ring .now) ∙ stops-at 4 _ _ (sym (c .before .no-ring .ensures) ∙ c .if3 .taken))
+    sym (two-passed second (second .before .before .before .before .args .ring .now) ∙ stops-at 4 _ _ (sym (c .before .no-ring .ensures) ∙ c .if3 .taken))
 
 some-beyond-requires : tie.Need-some-beyond-requires
 some-beyond-requires c κs = search needs
@@ -69,7 +66,7 @@ returns-4 : tie.Need-returns-4
 returns-4 c =
     let third = c .before .before in
     let second = third .before .before in
-    let xs = second .before .before .before .before .before .args .ring .now in
+    let xs = second .before .before .before .before .args .ring .now in
     sym
     (two-passed second xs
     ∙ passes 4 _ _ (sym (third .before .no-ring .ensures) ∙ third .if3 .left)
@@ -79,7 +76,7 @@ returns-5 : tie.Need-returns-5
 returns-5 c =
     let third = c .before .before in
     let second = third .before .before in
-    let xs = second .before .before .before .before .before .args .ring .now in
+    let xs = second .before .before .before .before .args .ring .now in
     sym
     (two-passed second xs
     ∙ passes 4 _ _ (sym (third .before .no-ring .ensures) ∙ third .if3 .left)
@@ -90,7 +87,6 @@ pub judged-spec : {M : Type 1} → statement M
 judged-spec =
     tie.close
     (tie.spec
-    well-formed-requires
     returns
     outline-size-requires
     returns-2

@@ -1,11 +1,12 @@
 -- `stream::calling::merge` meets its contract. Assumes nothing.
+use mathlib.Core.Path.{sym}
 use borrow.Author.Needs.{needs}
 use Rattle.stream.proofs.Replying.{merging-by}
 use Rattle.stream.proofs.calling.merge.Statement.{statement}
 use Rattle.stream.proofs.calling.merge.Tie as tie
 
-merge-requires : tie.Need-merge-requires
-merge-requires c κs = search needs
+merge-known-requires : tie.Need-merge-known-requires
+merge-known-requires c κs = sym (c .before .before .before .before .pre)
 
 changed-requires : tie.Need-changed-requires
 changed-requires c κs = search needs
@@ -20,9 +21,9 @@ same-length-3 : tie.Need-same-length-3
 same-length-3 c = search needs
 
 returns : tie.Need-returns
-returns c = let called = c .before .before .before .before .before in merging-by (called .merge .result) _ _ _ _ _ _ _ _ (called .merge .ensures) (c .changed .ensures)
+returns c = let called = c .before .before .before .before .before in merging-by (called .merge-known .result) _ _ _ _ _ _ _ _ (called .merge-known .ensures) (c .changed .ensures)
 
 pub merge-spec : {M : Type 1} → statement M
 merge-spec =
     tie.close
-    (tie.spec merge-requires changed-requires same-length same-length-2 same-length-3 returns)
+    (tie.spec merge-known-requires changed-requires same-length same-length-2 same-length-3 returns)

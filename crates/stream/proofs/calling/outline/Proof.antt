@@ -1,5 +1,6 @@
 -- `stream::calling::outline` meets its contract. Assumes nothing.
 use Prim.Native.Nat.{_*_}
+use mathlib.Core.Path.{sym}
 use borrow.Author.Needs.{needs}
 use Rattle.stream.proofs.Replying.{founding-by}
 use Rattle.stream.proofs.calling.outline.Statement.{statement}
@@ -8,17 +9,17 @@ use Rattle.stream.proofs.calling.outline.Tie as tie
 mul-end : tie.Need-mul-end
 mul-end c = search needs
 
-sub-found : tie.Need-sub-found
-sub-found c = search needs
+sub-found-known : tie.Need-sub-found-known
+sub-found-known c = search needs
 
-part-found-start : tie.Need-part-found-start
-part-found-start c = search needs
+part-found-known-start : tie.Need-part-found-known-start
+part-found-known-start c = search needs
 
-part-found-end : tie.Need-part-found-end
-part-found-end c = search needs
+part-found-known-end : tie.Need-part-found-known-end
+part-found-known-end c = search needs
 
-found-requires : tie.Need-found-requires
-found-requires c κs = search needs
+found-known-requires : tie.Need-found-known-requires
+found-known-requires c κs = sym (c .before .before .before .before .before .before .before .pre .1)
 
 founded-requires : tie.Need-founded-requires
 founded-requires c κs = search needs
@@ -42,17 +43,17 @@ returns : tie.Need-returns
 returns c =
     let called = c .before .before .before .before .before .before .before in
     let a = called .before .before .before .before .before .before .before .before .args in
-    founding-by (called .found .result) _ (a .list .now) (2 * a .n) _ _ (called .found .ensures) (c .founded .ensures)
+    founding-by (called .found-known .result) _ (a .list .now) (2 * a .n) _ _ (called .found-known .ensures) (c .founded .ensures)
 
 pub outline-spec : {M : Type 1} → statement M
 outline-spec =
     tie.close
     (tie.spec
     mul-end
-    sub-found
-    part-found-start
-    part-found-end
-    found-requires
+    sub-found-known
+    part-found-known-start
+    part-found-known-end
+    found-known-requires
     founded-requires
     same-length
     same-length-2

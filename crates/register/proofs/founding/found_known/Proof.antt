@@ -1,4 +1,4 @@
--- `register::founding::found` writes where nothing is refused, and otherwise leaves the lists. Assumes nothing.
+-- `register::founding::found_known` writes where nothing is refused, and otherwise leaves the lists. Assumes nothing.
 use Prim.Native.Nat.{ℕ, _+_, _/_, _%_, _≤_}
 use native.Mathlib.Omega.{arith}
 use mathlib.Core.Path.{_≡_, refl, sym, ap, transport, _∙_}
@@ -27,8 +27,8 @@ use Rattle.register.specs.declared.Founded.the-variants.{Done, Refused}
 use Rattle.register.specs.Founding.{foundTests, founded}
 use Rattle.register.specs.Calls.{Wrote, FoundBy}
 use Rattle.register.proofs.Founds.{founded-sound, founded-meaning}
-use Rattle.register.proofs.founding.found.Statement.{statement}
-use Rattle.register.proofs.founding.found.Tie as tie
+use Rattle.register.proofs.founding.found_known.Statement.{statement}
+use Rattle.register.proofs.founding.found_known.Tie as tie
 
 abbrev lists : tie.Start → Lists
 lists s = lent (s .args .ox .now) (s .args .oy .now) (s .args .sx .now) (s .args .sy .now) (s .args .runs .now)
@@ -160,8 +160,8 @@ returns-2 c =
     let s = judged .before .before .before .before .before .before .before in
     left-all _ (s .args .ring .now) (lists s) (sym (judged .judged .ensures) ∙ ap verdictOf (told .r .given .1))
 
-pub found-spec : {M : Type 1} → statement M
-found-spec =
+pub found-known-spec : {M : Type 1} → statement M
+found-known-spec =
     tie.close
     (tie.spec
     judged-requires
