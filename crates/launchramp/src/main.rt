@@ -195,7 +195,19 @@ fn read_all(
     let mut turns = ports::TRIES;
     while d.going & (0 < turns) {
         d = turn(
-            input, output, coordinates, ox, oy, sx, sy, runs, bx, by, mx, my, d,
+            input,
+            output,
+            coordinates,
+            ox,
+            oy,
+            sx,
+            sy,
+            runs,
+            bx,
+            by,
+            mx,
+            my,
+            d,
         );
         turns -= 1;
     }

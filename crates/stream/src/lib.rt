@@ -8,8 +8,8 @@ mod counting;
 mod printing;
 mod saying;
 
-pub use printing::print;
 use index::Axes;
+pub use printing::print;
 use tally::Tally;
 use wording::Kind;
 use wording::Said;

@@ -121,7 +121,19 @@ pub fn print(
     };
     while p.going {
         p = print_record(
-            bytes, coordinates, ox, oy, sx, sy, runs, bx, by, mx, my, to, p,
+            bytes,
+            coordinates,
+            ox,
+            oy,
+            sx,
+            sy,
+            runs,
+            bx,
+            by,
+            mx,
+            my,
+            to,
+            p,
         );
     }
     p

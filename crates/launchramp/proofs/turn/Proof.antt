@@ -71,8 +71,7 @@ same-length-7 c = let called = c .before .before .before .before .before .before
 returns : tie.Need-returns
 returns c =
     let followed = c .before .before in
-    let called = followed .before .before .before .before .before .before .before .before .before .before .before .before .before .before .before in
-    (
+    let called = followed .before .before .before .before .before .before .before .before .before .before .before .before .before .before .before in (
       turned _ _ _ _ _ _ _ _ (called .print .result) (start called .pre .0) (called .print .ensures .0) (called .print .ensures .1) (followed .follow .result) _ (followed .follow .ensures),
       axes-fit _ _ _ _ _ _ (followed .follow .ensures .axes) (called .print .ensures .2),
     )

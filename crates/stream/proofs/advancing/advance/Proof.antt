@@ -94,8 +94,7 @@ unfolding talliedBy
 returns c =
     let called = c .before .before .before .before .before .before .before in
     let front = called .before .before .before .before .before .before .before .before .before in
-    let read = front .before .before in
-    (
+    let read = front .before .before in (
       advanced (read .decode .result) _ _ _ _ _ _ _ _ (read .decode .ensures) (ap (λ q. frontOf q (read .decode .result .taken) (read .decode .last .1 .0)) (front .front .given .1)) refl (ap (answered outline) (called .outline .ensures .answer (start read .args .tally))) refl (called .outline .ensures .left),
       stale-fits _ _ _ _ _ _ _ _ _ (start read .pre .1) (c .stale .ensures),
     )
@@ -120,8 +119,7 @@ unfolding talliedBy
 returns-2 c =
     let called = c .before .before .before .before .before in
     let front = called .before .before .before .before .before .before .before .before .before in
-    let read = front .before .before in
-    (
+    let read = front .before .before in (
       advanced (read .decode .result) _ _ _ _ _ _ _ _ (read .decode .ensures) (ap (λ q. frontOf q (read .decode .result .taken) (read .decode .last .1 .0)) (front .front2 .given .1)) refl (ap (answered split) (called .split .ensures .answer (start read .args .tally))) refl (called .split .ensures .left),
       stale-fits _ _ _ _ _ _ _ _ _ (start read .pre .1) (c .stale2 .ensures),
     )
@@ -146,8 +144,7 @@ unfolding talliedBy
 returns-3 c =
     let called = c .before .before .before .before .before in
     let front = called .before .before .before .before .before .before .before in
-    let read = front .before .before in
-    (
+    let read = front .before .before in (
       advanced (read .decode .result) _ _ _ _ _ _ _ _ (read .decode .ensures) (ap (λ q. frontOf q (read .decode .result .taken) (read .decode .last .1 .0)) (front .front3 .given .1)) refl (ap (answered merge) (called .merge .ensures .answer (start read .args .tally))) refl (called .merge .ensures .left),
       stale-fits _ _ _ _ _ _ _ _ _ (start read .pre .1) (c .stale3 .ensures),
     )
@@ -167,8 +164,7 @@ returns-4 c =
     let read = front .before .before in
     let l = lists read in
     let said = c .report .ensures .0 (outlineOf l) in
-    let good = start read .pre .0 in
-    (
+    let good = start read .pre .0 in (
       advanced (read .decode .result) _ _ _ _ _ _ _ _ (read .decode .ensures) (ap (λ q. frontOf q (read .decode .result .taken) (read .decode .last .1 .0)) (front .front4 .given .1)) (said .taken) (reported-told _ _ _ _ _ l good said) (reported-tally _ _ _ _ _ l good said) refl,
       c .report .ensures .1,
     )

@@ -1,0 +1,3 @@
+pub mod Areas
+pub mod Lengths
+pub mod Walk
