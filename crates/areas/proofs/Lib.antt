@@ -1,5 +1,9 @@
 pub mod Sums
 pub mod Told
 pub mod Lies
+pub mod Given
+pub mod OneRing
 pub mod Past
+pub mod Missed
 pub mod Used
+pub mod Vectors

@@ -1,5 +1,5 @@
 -- Going over the rings of an area in the columns: when locating may take the next ring, and what is known behind it. Assumes nothing.
-use Prim.Native.Nat.{ℕ, zero, suc, _+_, _-_, _*_, _≤_, _<_}
+use Prim.Native.Nat.{ℕ, _+_, _-_, _*_, _≤_, _<_}
 use native.Mathlib.Numerals.{add-one}
 use native.Mathlib.Omega.{arith}
 use mathlib.Core.Path.{_≡_, refl, sym, ap, subst, subst₂, _∙_}
@@ -25,6 +25,7 @@ use Rattle.columns.specs.Walk.{Clean}
 use Rattle.areas.specs.Areas.{parts, given, Lie, on, off, afterRing, liesFrom, liesIn}
 use Rattle.areas.specs.Lengths.{mostRings, sum, outside, someOutside}
 use Rattle.areas.specs.Walk.{Ready, mostAbout}
+use Rattle.areas.proofs.Given.{given-none, given-some}
 use Rattle.areas.proofs.Lies.{met-or-free}
 use Rattle.areas.proofs.Told.{Told, holds, passed, told, off-winding, winding-few}
 
@@ -39,8 +40,12 @@ part-on-grid f n xs e =
     let behind : someBeyond (drop f xs) ≡ false = neither-right (someBeyond (take f xs)) _ (sym (beyond-append (take f xs) (drop f xs)) ∙ ap someBeyond (take-append-drop f xs) ∙ e) in
     neither-left _ (someBeyond (drop n (drop f xs))) (sym (beyond-append (take n (drop f xs)) (drop n (drop f xs))) ∙ ap someBeyond (take-append-drop n (drop f xs)) ∙ behind)
 
-part-length : {A : Type 0} (l : List A) (f n : ℕ) → f + n ≤ length l → length (take n (drop f l)) ≡ n
+pub part-length : {A : Type 0} (l : List A) (f n : ℕ) → f + n ≤ length l → length (take n (drop f l)) ≡ n
 part-length l f n h = simp (length-take, length-drop) (omega arith)
+
+-- the part of the points is the points of the parts
+pub part-points : (xs ys : List ℤ) (f n : ℕ) → take n (drop f (points xs ys)) ≡ points (take n (drop f xs)) (take n (drop f ys))
+part-points xs ys f n = ap (take n) (points-drop f xs ys) ∙ points-take n (drop f xs) (drop f ys)
 
 module _ (xs ys : List ℤ) (R : Point) (clean : Clean xs ys R) (f n : ℕ) (least : 3 ≤ n) (inside : f + n ≤ length xs) where
   -- as the code cuts it
@@ -57,9 +62,8 @@ module _ (xs ys : List ℤ) (R : Point) (clean : Clean xs ys R) (f n : ℕ) (lea
         clean = record { even = across ∙ sym up; most = omega (arith, across, most, inside); grid-x = part-on-grid f n xs (clean .grid-x); grid-y = part-on-grid f n ys (clean .grid-y); point = clean .point };
       })
 
-  -- the points of the parts are the part of the points
   ring-points : points (take (f + n - f) (drop f xs)) (take (f + n - f) (drop f ys)) ≡ take n (drop f (points xs ys))
-  ring-points = (λ i. points (cut xs i) (cut ys i)) ∙ sym (ap (take n) (points-drop f xs ys) ∙ points-take n (drop f xs) (drop f ys))
+  ring-points = (λ i. points (cut xs i) (cut ys i)) ∙ sym (part-points xs ys f n)
 
   -- by that ring alone
   pub ring-lies : (k : ℕ) (w : ℤ) (p : Place) → p ≡ locatedOn (points (take (f + n - f) (drop f xs)) (take (f + n - f) (drop f ys))) R → afterRing k w p off ≡ liesFrom k w (take n (drop f (points xs ys)) ∷ []) R
@@ -91,18 +95,6 @@ passed-first k w v P Ps R = go (locatedOn P R) (told P R)
     go : (p : Place) → Told P R p → afterRing k w p off ≡ off v → (afterRing k w p (λ z. liesFrom (k + 1) z Ps R) ≡ liesFrom (k + 1) v Ps R) × (w +ℤ winding P R ≡ v)
     go p (holds t) e = absurd (met-or-free k t v e)
     go p passed e = let same : w +ℤ winding P R ≡ v = cc in (ap (λ (z : ℤ). liesFrom (k + 1) z Ps R) same, same)
-
--- ---- the sizes
-
-given-none : (n : ℕ) (ns : List ℕ) → n ≡ 0 → given (n ∷ ns) ≡ []
-unfolding given
-given-none zero ns e = refl
-given-none (suc n) ns e = absurd (let f : ⊥ = omega arith in f)
-
-given-one : (n : ℕ) (ns : List ℕ) → (n ≡ 0 → ⊥) → given (n ∷ ns) ≡ n ∷ given ns
-unfolding given
-given-one zero ns e = absurd (e refl)
-given-one (suc n) ns e = refl
 
 -- ---- from one ring to the next
 
@@ -149,7 +141,7 @@ module _ {xs ys : List ℤ} {sizes : List ℕ} {R : Point} {about : ℤ} {at k n
 
   module _ (some : n ≡ 0 → ⊥) where
     next : given (drop k sizes) ≡ n ∷ given (drop (k + 1) sizes)
-    next = ap given ahead ∙ given-one n (drop (k + 1) sizes) some
+    next = ap given ahead ∙ given-some n (drop (k + 1) sizes) some
 
     abbrev ring : List Point
     ring = take n (drop at (points xs ys))

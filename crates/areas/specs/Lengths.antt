@@ -1,6 +1,6 @@
 -- The lengths of an area's rings, outer ring first: what they add up to, and which lists of them are refused. Assumes nothing.
-use Prim.Native.Nat.{ℕ, _+_, _/_, _%_}
-use mathlib.Core.Bool.{Bool, false, not, _||_}
+use Prim.Native.Nat.{ℕ, zero, suc, _+_, _/_, _%_}
+use mathlib.Core.Bool.{Bool, true, false, not, _||_}
 use mathlib.Core.List.{List, [], _∷_}
 use lib.Dec.{eqb, ltb}
 use lib.ListN.{length}
@@ -13,6 +13,17 @@ mostRings = 9
 unfoldable pub sum : List ℕ → ℕ
 sum [] = 0
 sum (n ∷ ns) = n + sum ns
+
+unfoldable pub allZero : List ℕ → Bool
+allZero [] = true
+allZero (zero ∷ ns) = allZero ns
+allZero (suc n ∷ ns) = false
+
+-- behind a 0 only 0
+unfoldable pub closed : List ℕ → Bool
+closed [] = true
+closed (zero ∷ ns) = allZero ns
+closed (suc n ∷ ns) = closed ns
 
 -- no ring has n vertices: fewer than 3, or more than 2,048
 abbrev pub outside : ℕ → Bool
