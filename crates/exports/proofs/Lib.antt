@@ -1,4 +1,1 @@
-pub mod Values
-pub mod Places
 pub mod Unique
-pub mod Batched

@@ -1,7 +1,7 @@
--- What the exported calls answer and leave: what the calls of `register`, `changes`, `tally` and `fixes` do, told as a code. Assumes nothing.
+-- What the exported calls answer and leave: what the calls of `register`, `changes` and `tally` do, told as a code. Assumes nothing.
 use Prim.Native.Nat.{ℕ}
 use mathlib.Core.Path.{_≡_}
-use mathlib.Core.List.{List, [], _∷_}
+use mathlib.Core.List.{List}
 use lib.IntN.{ℤ}
 use Rattle.ring.specs.Grid.{vertices}
 use Rattle.districts.specs.Register.{Register}
@@ -9,15 +9,13 @@ use Rattle.districts.specs.Answers.{Answer}
 use Rattle.refusals.specs.Verdicts.{Verdict, verdict}
 use Rattle.register.specs.Founding.{foundTests, founded}
 use Rattle.districts.specs.Lent.{Lists, formed, means, Leaves}
-use Rattle.fixes.specs.declared.Placed.{Placed}
-use Rattle.fixes.specs.declared.Placed.the-variants.{OnGrid, BeyondGrid, NotFinite}
 use Rattle.tally.specs.Tally.{tallied, answered}
 use Rattle.judging.specs.Splitting.{splitTests, lowestUnused}
 use Rattle.judging.specs.Merging.{mergeTests}
 use Rattle.changes.specs.Answers.{answers}
 use Rattle.changes.specs.Afterwards.{split, merge}
-use Rattle.exports.specs.Codes.{Code, verdictCode, changeCode, answerCode, placedCode, Tells}
-use Rattle.exports.specs.Counts.{tallyOf}
+use Rattle.codes.specs.Codes.{Code, verdictCode, changeCode, answerCode, Tells}
+use Rattle.codes.specs.Counts.{tallyOf}
 
 -- a call judged as v, told by code c, that leaves register g if nothing is refused
 pub record ToldBy (v : Verdict) (c : Code) (g : Register) (r : ℕ) (values : List ℕ) (before after : Lists) : Type 0 where
@@ -41,14 +39,3 @@ MergeTells r values A a B b k before after =
 pub record CountTells (r : ℕ) (values : List ℕ) (a : Answer) (before after : List ℕ) : Type 0 where
   pub tells : Tells r values (answerCode (answered (tallyOf before) a))
   pub tally : tallyOf after ≡ tallied (tallyOf before) a
-
--- what a lent point is once a fix was placed
-abbrev pub pointFor : Placed → List ℤ → List ℤ
-pointFor (OnGrid x y) before = x ∷ y ∷ []
-pointFor BeyondGrid before = before
-pointFor NotFinite before = before
-
--- a fix that was placed
-pub record PlaceTells (r : ℕ) (values : List ℕ) (p : Placed) (before after : List ℤ) : Type 0 where
-  pub tells : Tells r values (placedCode p)
-  pub left : after ≡ pointFor p before

@@ -1,28 +1,24 @@
 // The calls for programs in other languages: numbers and lent lists only. No call has a `requires`. include/launchramp.h declares them; how
-// an answer is told is in specs/Codes.antt.
-mod batches;
-mod counting;
-mod telling;
-
+// an answer is told is in crates/codes/specs/Codes.antt.
+use codes::Values;
 use fixes::Fix;
 use register::Position;
-use telling::Values;
 ghost use mathlib.Core.Path.{_≡_};
 ghost use Rattle.ring.specs.Locate.{located};
 ghost use Rattle.districts.specs.Lent.{lent, formed, means};
 ghost use Rattle.register.specs.Sorting.{assigned};
 ghost use Rattle.fixes.specs.Millimetres.{placed};
 ghost use Rattle.register.specs.Placing.{assignedAt};
-ghost use Rattle.exports.specs.Codes.{placeCode, answerCode, Tells};
-ghost use Rattle.exports.specs.Batches.{BatchTells, BatchCounts};
-ghost use Rattle.exports.specs.Calls.{FoundTells, SplitTells, MergeTells, CountTells, PlaceTells};
+ghost use Rattle.codes.specs.Codes.{placeCode, answerCode, Tells, PlaceTells};
+ghost use Rattle.codes.specs.Batches.{BatchTells, BatchCounts};
+ghost use Rattle.exports.specs.Calls.{FoundTells, SplitTells, MergeTells, CountTells};
 
 // Where a point lies against one ring.
 #[no_mangle]
 pub extern "C" fn launchramp_locate(ring: &[i32], x: i32, y: i32, values: &mut Values) -> u32
     ensures { λ r. ⌜ Tells r (now (values .exit)) (placeCode (located (now (ring .entry)) x y)) ⌝ }
 {
-    telling::place(ring::locate(ring, x, y), values)
+    codes::place(ring::locate(ring, x, y), values)
 }
 
 // Whether the five lists are a well-formed register.
@@ -51,7 +47,7 @@ pub extern "C" fn launchramp_found(
 ) -> u32
     ensures { λ r. ⌜ FoundTells r (now (values .exit)) (now (ring .entry)) (lent (now (ox .entry)) (now (oy .entry)) (now (sx .entry)) (now (sy .entry)) (now (runs .entry))) (lent (now (ox .exit)) (now (oy .exit)) (now (sx .exit)) (now (sy .exit)) (now (runs .exit))) ⌝ }
 {
-    telling::founded(register::found(ox, oy, sx, sy, runs, ring), values)
+    codes::founded(register::found(ox, oy, sx, sy, runs, ring), values)
 }
 
 #[no_mangle]
@@ -69,7 +65,7 @@ pub extern "C" fn launchramp_split(
 ) -> u32
     ensures { λ r. ⌜ SplitTells r (now (values .exit)) d i j (now (path .entry)) (lent (now (ox .entry)) (now (oy .entry)) (now (sx .entry)) (now (sy .entry)) (now (runs .entry))) (lent (now (ox .entry)) (now (oy .entry)) (now (sx .exit)) (now (sy .exit)) (now (runs .exit))) ⌝ }
 {
-    telling::changed(changes::split(ox, oy, sx, sy, runs, d, i, j, path), values)
+    codes::changed(changes::split(ox, oy, sx, sy, runs, d, i, j, path), values)
 }
 
 #[no_mangle]
@@ -88,7 +84,7 @@ pub extern "C" fn launchramp_merge(
 ) -> u32
     ensures { λ r. ⌜ MergeTells r (now (values .exit)) kept a gone b k (lent (now (ox .entry)) (now (oy .entry)) (now (sx .entry)) (now (sy .entry)) (now (runs .entry))) (lent (now (ox .entry)) (now (oy .entry)) (now (sx .exit)) (now (sy .exit)) (now (runs .exit))) ⌝ }
 {
-    telling::changed(
+    codes::changed(
         changes::merge(ox, oy, sx, sy, runs, kept, a, gone, b, k),
         values,
     )
@@ -108,7 +104,7 @@ pub extern "C" fn launchramp_assign(
 ) -> u32
     ensures { λ r. ⌜ Tells r (now (values .exit)) (answerCode (assigned (formed (lent (now (ox .entry)) (now (oy .entry)) (now (sx .entry)) (now (sy .entry)) (now (runs .entry)))) (means (lent (now (ox .entry)) (now (oy .entry)) (now (sx .entry)) (now (sy .entry)) (now (runs .entry)))) 0 x y)) ⌝ }
 {
-    telling::assigned(register::assign(ox, oy, sx, sy, runs, 0, x, y), values)
+    codes::assigned(register::assign(ox, oy, sx, sy, runs, 0, x, y), values)
 }
 
 // Sorts a report at a point, and counts it in a tally.
@@ -127,7 +123,7 @@ pub extern "C" fn launchramp_assign_counted(
     ensures { λ r. ⌜ CountTells r (now (values .exit)) (assigned (formed (lent (now (ox .entry)) (now (oy .entry)) (now (sx .entry)) (now (sy .entry)) (now (runs .entry)))) (means (lent (now (ox .entry)) (now (oy .entry)) (now (sx .entry)) (now (sy .entry)) (now (runs .entry)))) 0 x y) (now (counts .entry)) (now (counts .exit)) ⌝ }
 {
     let answer = register::assign(ox, oy, sx, sy, runs, 0, x, y);
-    telling::assigned(counting::counted(answer, counts), values)
+    codes::assigned(codes::counted(answer, counts), values)
 }
 
 // Sorts the reports at all points of a list x, y, x, y, .., each as launchramp_assign does; nine numbers of `answers` tell each.
@@ -144,8 +140,8 @@ pub extern "C" fn launchramp_assign_all(
 ) -> u32
     ensures { λ r. ⌜ BatchTells r (now (values .exit)) (lent (now (ox .entry)) (now (oy .entry)) (now (sx .entry)) (now (sy .entry)) (now (runs .entry))) (now (points .entry)) (now (answers .entry)) (now (answers .exit)) ⌝ }
 {
-    telling::judged(
-        batches::assign_all(ox, oy, sx, sy, runs, points, answers),
+    codes::judged(
+        codes::assign_all(ox, oy, sx, sy, runs, points, answers),
         values,
     )
 }
@@ -165,8 +161,8 @@ pub extern "C" fn launchramp_assign_all_counted(
 ) -> u32
     ensures { λ r. ⌜ BatchCounts r (now (values .exit)) (lent (now (ox .entry)) (now (oy .entry)) (now (sx .entry)) (now (sy .entry)) (now (runs .entry))) (now (points .entry)) (now (answers .entry)) (now (answers .exit)) (now (counts .entry)) (now (counts .exit)) ⌝ }
 {
-    telling::judged(
-        batches::assign_all_counted(ox, oy, sx, sy, runs, points, answers, counts),
+    codes::judged(
+        codes::assign_all_counted(ox, oy, sx, sy, runs, points, answers, counts),
         values,
     )
 }
@@ -181,7 +177,7 @@ pub extern "C" fn launchramp_millimetres(
 ) -> u32
     ensures { λ r. ⌜ PlaceTells r (now (values .exit)) (placed easting northing) (now (point .entry)) (now (point .exit)) ⌝ }
 {
-    telling::placed(fixes::millimetres(Fix { easting, northing }), point, values)
+    codes::placed(fixes::millimetres(Fix { easting, northing }), point, values)
 }
 
 // Sorts a report by a receiver's fix.
@@ -199,7 +195,7 @@ pub extern "C" fn launchramp_assign_fix(
     ensures { λ r. ⌜ Tells r (now (values .exit)) (answerCode (assignedAt (formed (lent (now (ox .entry)) (now (oy .entry)) (now (sx .entry)) (now (sy .entry)) (now (runs .entry)))) (means (lent (now (ox .entry)) (now (oy .entry)) (now (sx .entry)) (now (sy .entry)) (now (runs .entry)))) 0 (Position.Fix (record { easting = easting; northing = northing })))) ⌝ }
 {
     let position = Position::Fix(Fix { easting, northing });
-    telling::assigned(
+    codes::assigned(
         register::assign_at(ox, oy, sx, sy, runs, 0, position),
         values,
     )
@@ -222,7 +218,7 @@ pub extern "C" fn launchramp_assign_fix_counted(
 {
     let position = Position::Fix(Fix { easting, northing });
     let answer = register::assign_at(ox, oy, sx, sy, runs, 0, position);
-    telling::assigned(counting::counted(answer, counts), values)
+    codes::assigned(codes::counted(answer, counts), values)
 }
 
 // Refuses a report whose position is missing: by 19, or by what comes before it.
@@ -237,7 +233,7 @@ pub extern "C" fn launchramp_assign_missing(
 ) -> u32
     ensures { λ r. ⌜ Tells r (now (values .exit)) (answerCode (assignedAt (formed (lent (now (ox .entry)) (now (oy .entry)) (now (sx .entry)) (now (sy .entry)) (now (runs .entry)))) (means (lent (now (ox .entry)) (now (oy .entry)) (now (sx .entry)) (now (sy .entry)) (now (runs .entry)))) 0 Position.Missing)) ⌝ }
 {
-    telling::assigned(
+    codes::assigned(
         register::assign_at(ox, oy, sx, sy, runs, 0, Position::Missing),
         values,
     )

@@ -2,8 +2,8 @@
 use mathlib.Core.Path.{ap}
 use mir.Facts.{toZ-ofZ}
 use borrow.Author.Needs.{needs}
-use Rattle.exports.specs.Codes.{answerCode}
-use Rattle.exports.proofs.Values.{tells-as}
+use Rattle.codes.specs.Codes.{answerCode}
+use Rattle.codes.proofs.Values.{tells-as}
 use Rattle.exports.proofs.launchramp_assign.Statement.{statement}
 use Rattle.exports.proofs.launchramp_assign.Tie as tie
 

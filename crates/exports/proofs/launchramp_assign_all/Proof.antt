@@ -1,5 +1,5 @@
 -- `exports::launchramp_assign_all` tells the verdict, and leaves the answers. Assumes nothing.
-use Rattle.exports.proofs.Batched.{batch-told}
+use Rattle.codes.proofs.Batched.{batch-told}
 use borrow.Author.Needs.{needs}
 use Rattle.exports.proofs.launchramp_assign_all.Statement.{statement}
 use Rattle.exports.proofs.launchramp_assign_all.Tie as tie

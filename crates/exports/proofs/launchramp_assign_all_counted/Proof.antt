@@ -1,5 +1,5 @@
 -- `exports::launchramp_assign_all_counted` tells the verdict, and leaves the answers and the counts. Assumes nothing.
-use Rattle.exports.proofs.Batched.{batch-counted}
+use Rattle.codes.proofs.Batched.{batch-counted}
 use borrow.Author.Needs.{needs}
 use Rattle.exports.proofs.launchramp_assign_all_counted.Statement.{statement}
 use Rattle.exports.proofs.launchramp_assign_all_counted.Tie as tie

@@ -1,8 +1,8 @@
 -- `exports::launchramp_assign_missing` meets its contract. Assumes nothing.
 use mathlib.Core.Path.{ap}
 use borrow.Author.Needs.{needs}
-use Rattle.exports.specs.Codes.{answerCode}
-use Rattle.exports.proofs.Values.{tells-as}
+use Rattle.codes.specs.Codes.{answerCode}
+use Rattle.codes.proofs.Values.{tells-as}
 use Rattle.exports.proofs.launchramp_assign_missing.Statement.{statement}
 use Rattle.exports.proofs.launchramp_assign_missing.Tie as tie
 

@@ -3,8 +3,8 @@ use mathlib.Core.Path.{ap, subst}
 use borrow.Author.Needs.{needs}
 use Rattle.register.specs.Founding.{founded}
 use Rattle.districts.specs.Lent.{lent, Leaves}
-use Rattle.exports.specs.Codes.{verdictCode}
-use Rattle.exports.proofs.Values.{tells-as}
+use Rattle.codes.specs.Codes.{verdictCode}
+use Rattle.codes.proofs.Values.{tells-as}
 use Rattle.exports.proofs.launchramp_found.Statement.{statement}
 use Rattle.exports.proofs.launchramp_found.Tie as tie
 

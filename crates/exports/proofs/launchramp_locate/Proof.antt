@@ -2,8 +2,8 @@
 use mathlib.Core.Path.{ap}
 use mir.Facts.{toZ-ofZ}
 use borrow.Author.Needs.{needs}
-use Rattle.exports.specs.Codes.{placeCode}
-use Rattle.exports.proofs.Values.{tells-as}
+use Rattle.codes.specs.Codes.{placeCode}
+use Rattle.codes.proofs.Values.{tells-as}
 use Rattle.exports.proofs.launchramp_locate.Statement.{statement}
 use Rattle.exports.proofs.launchramp_locate.Tie as tie
 

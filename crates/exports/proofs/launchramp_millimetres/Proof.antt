@@ -1,6 +1,6 @@
 -- `exports::launchramp_millimetres` meets its contract. Assumes nothing.
 use borrow.Author.Needs.{needs}
-use Rattle.exports.proofs.Values.{places-as}
+use Rattle.codes.proofs.Values.{places-as}
 use Rattle.exports.proofs.launchramp_millimetres.Statement.{statement}
 use Rattle.exports.proofs.launchramp_millimetres.Tie as tie
 

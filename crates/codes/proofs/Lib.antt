@@ -1,0 +1,4 @@
+pub mod Values
+pub mod Places
+pub mod Batched
+pub mod Unique
