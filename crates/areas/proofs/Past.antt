@@ -10,35 +10,35 @@ use lib.ListN.{length, get_or, take, drop, length-take, length-drop, take-append
 use lib.Seq.{drop-cons, drop-drop}
 use lib.Dec.{ltb}
 use borrow.Author.Tests.{ltb-false}
-use Rattle.exact.proofs.Bounds.{natAbs-add}
+use Rattle.exact.proofs.Bounds.{nat_abs-add}
 use Rattle.ring.specs.declared.Point.{Point}
-use Rattle.ring.specs.Grid.{beyond, someBeyond}
+use Rattle.ring.specs.Grid.{beyond, some_beyond}
 use Rattle.ring.specs.Columns.{points}
 use Rattle.ring.specs.Turns.{winding}
 use Rattle.ring.specs.Locate as Locate
-use Rattle.ring.specs.Locate.{Touch, Place, locatedOn}
-use Rattle.ring.specs.Walk.{mostTurns}
+use Rattle.ring.specs.Locate.{Touch, Place, located_on}
+use Rattle.ring.specs.Walk.{most_turns}
 use Rattle.ring.proofs.Columns.{length-points, points-take, points-drop}
 use Rattle.ring.proofs.Pick.{neither_left, neither_right}
 use Rattle.columns.specs.Walk as columns
 use Rattle.columns.specs.Walk.{Clean}
-use Rattle.areas.specs.Areas.{parts, given, Lie, on, off, afterRing, liesFrom, liesIn}
-use Rattle.areas.specs.Lengths.{mostRings, sum, outside, someOutside}
-use Rattle.areas.specs.Walk.{Ready, mostAbout}
+use Rattle.areas.specs.Areas.{parts, given, Lie, on, off, after_ring, lies_from, lies_in}
+use Rattle.areas.specs.Lengths.{most_rings, sum, outside, some_outside}
+use Rattle.areas.specs.Walk.{Ready, most_about}
 use Rattle.areas.proofs.Given.{given-none, given-some}
 use Rattle.areas.proofs.Lies.{met-or-free}
 use Rattle.areas.proofs.Told.{Told, holds, passed, told, off-winding, winding-few}
 
 -- ---- one ring: n places of the columns from place f on
 
-beyond-append : (xs ys : List ℤ) → someBeyond (xs ++ ys) ≡ (someBeyond xs || someBeyond ys)
+beyond-append : (xs ys : List ℤ) → some_beyond (xs ++ ys) ≡ (some_beyond xs || some_beyond ys)
 beyond-append [] ys = refl
-beyond-append (x ∷ xs) ys = ap (λ (b : Bool). beyond x || b) (beyond-append xs ys) ∙ sym (or_assoc (beyond x) (someBeyond xs) (someBeyond ys))
+beyond-append (x ∷ xs) ys = ap (λ (b : Bool). beyond x || b) (beyond-append xs ys) ∙ sym (or_assoc (beyond x) (some_beyond xs) (some_beyond ys))
 
-part-on-grid : (f n : ℕ) (xs : List ℤ) → someBeyond xs ≡ false → someBeyond (take n (drop f xs)) ≡ false
+part-on-grid : (f n : ℕ) (xs : List ℤ) → some_beyond xs ≡ false → some_beyond (take n (drop f xs)) ≡ false
 part-on-grid f n xs e =
-    let behind : someBeyond (drop f xs) ≡ false = neither_right (someBeyond (take f xs)) _ (sym (beyond-append (take f xs) (drop f xs)) ∙ ap someBeyond (take-append-drop f xs) ∙ e) in
-    neither_left _ (someBeyond (drop n (drop f xs))) (sym (beyond-append (take n (drop f xs)) (drop n (drop f xs))) ∙ ap someBeyond (take-append-drop n (drop f xs)) ∙ behind)
+    let behind : some_beyond (drop f xs) ≡ false = neither_right (some_beyond (take f xs)) _ (sym (beyond-append (take f xs) (drop f xs)) ∙ ap some_beyond (take-append-drop f xs) ∙ e) in
+    neither_left _ (some_beyond (drop n (drop f xs))) (sym (beyond-append (take n (drop f xs)) (drop n (drop f xs))) ∙ ap some_beyond (take-append-drop n (drop f xs)) ∙ behind)
 
 pub part_length : {A : Type 0} (l : List A) (f n : ℕ) → f + n ≤ length l → length (take n (drop f l)) ≡ n
 part_length l f n h = simp (length-take, length-drop) (omega arith)
@@ -66,58 +66,58 @@ module _ (xs ys : List ℤ) (R : Point) (clean : Clean xs ys R) (f n : ℕ) (lea
   ring-points = (λ i. points (cut xs i) (cut ys i)) ∙ sym (part-points xs ys f n)
 
   -- by that ring alone
-  pub ring-lies : (k : ℕ) (w : ℤ) (p : Place) → p ≡ locatedOn (points (take (f + n - f) (drop f xs)) (take (f + n - f) (drop f ys))) R → afterRing k w p off ≡ liesFrom k w (take n (drop f (points xs ys)) ∷ []) R
-  unfolding liesFrom
-  ring-lies k w p e = ap (λ q. afterRing k w q off) (e ∙ ap (λ P. locatedOn P R) ring-points)
+  pub ring-lies : (k : ℕ) (w : ℤ) (p : Place) → p ≡ located_on (points (take (f + n - f) (drop f xs)) (take (f + n - f) (drop f ys))) R → after_ring k w p off ≡ lies_from k w (take n (drop f (points xs ys)) ∷ []) R
+  unfolding lies_from
+  ring-lies k w p e = ap (λ q. after_ring k w q off) (e ∙ ap (λ P. located_on P R) ring-points)
 
-  pub ring-few : (v : ℤ) (o : Bool) → Locate.off v o ≡ locatedOn (points (take (f + n - f) (drop f xs)) (take (f + n - f) (drop f ys))) R → nat_abs v ≤ mostTurns
+  pub ring-few : (v : ℤ) (o : Bool) → Locate.off v o ≡ located_on (points (take (f + n - f) (drop f xs)) (take (f + n - f) (drop f ys))) R → nat_abs v ≤ most_turns
   ring-few v o e =
       let P = points (take (f + n - f) (drop f xs)) (take (f + n - f) (drop f ys)) in
       let r = ring-ready.clean in
-      subst (λ (z : ℤ). nat_abs z ≤ mostTurns) (sym (off-winding P R v o (sym e))) (omega (arith, winding-few P R, length-points (take (f + n - f) (drop f xs)) (take (f + n - f) (drop f ys)) r.even, r.most))
+      subst (λ (z : ℤ). nat_abs z ≤ most_turns) (sym (off-winding P R v o (sym e))) (omega (arith, winding-few P R, length-points (take (f + n - f) (drop f xs)) (take (f + n - f) (drop f ys)) r.even, r.most))
 
 -- ---- one ring, then those behind it
 
 -- on the ring: those behind it don't matter
-met-first : (k j : ℕ) (w : ℤ) (P : List Point) (Ps : List (List Point)) (R : Point) (t : Touch) → liesFrom k w (P ∷ []) R ≡ on j t → liesFrom k w (P ∷ Ps) R ≡ on j t
-unfolding liesFrom
-met-first k j w P Ps R t = go (locatedOn P R) (told P R)
+met-first : (k j : ℕ) (w : ℤ) (P : List Point) (Ps : List (List Point)) (R : Point) (t : Touch) → lies_from k w (P ∷ []) R ≡ on j t → lies_from k w (P ∷ Ps) R ≡ on j t
+unfolding lies_from
+met-first k j w P Ps R t = go (located_on P R) (told P R)
   where
-    go : (p : Place) → Told P R p → afterRing k w p off ≡ on j t → afterRing k w p (λ v. liesFrom (k + 1) v Ps R) ≡ on j t
+    go : (p : Place) → Told P R p → after_ring k w p off ≡ on j t → after_ring k w p (λ v. lies_from (k + 1) v Ps R) ≡ on j t
     go p (holds u) e = e
     go p passed e = absurd (met-or-free j t _ (sym e))
 
 -- off it: they decide, and the number has grown by this ring's alone
-passed_first : (k : ℕ) (w v : ℤ) (P : List Point) (Ps : List (List Point)) (R : Point) → liesFrom k w (P ∷ []) R ≡ off v → (liesFrom k w (P ∷ Ps) R ≡ liesFrom (k + 1) v Ps R) × (w +ℤ winding P R ≡ v)
-unfolding liesFrom
-passed_first k w v P Ps R = go (locatedOn P R) (told P R)
+passed_first : (k : ℕ) (w v : ℤ) (P : List Point) (Ps : List (List Point)) (R : Point) → lies_from k w (P ∷ []) R ≡ off v → (lies_from k w (P ∷ Ps) R ≡ lies_from (k + 1) v Ps R) × (w +ℤ winding P R ≡ v)
+unfolding lies_from
+passed_first k w v P Ps R = go (located_on P R) (told P R)
   where
-    go : (p : Place) → Told P R p → afterRing k w p off ≡ off v → (afterRing k w p (λ z. liesFrom (k + 1) z Ps R) ≡ liesFrom (k + 1) v Ps R) × (w +ℤ winding P R ≡ v)
+    go : (p : Place) → Told P R p → after_ring k w p off ≡ off v → (after_ring k w p (λ z. lies_from (k + 1) z Ps R) ≡ lies_from (k + 1) v Ps R) × (w +ℤ winding P R ≡ v)
     go p (holds t) e = absurd (met-or-free k t v e)
-    go p passed e = let same : w +ℤ winding P R ≡ v = cc in (ap (λ (z : ℤ). liesFrom (k + 1) z Ps R) same, same)
+    go p passed e = let same : w +ℤ winding P R ≡ v = cc in (ap (λ (z : ℤ). lies_from (k + 1) z Ps R) same, same)
 
 -- ---- from one ring to the next
 
 -- how R lies to the area
 abbrev Whole : List ℤ → List ℤ → List ℕ → Point → Lie
-Whole xs ys sizes R = liesIn (parts (given sizes) (points xs ys)) R
+Whole xs ys sizes R = lies_in (parts (given sizes) (points xs ys)) R
 
 -- what is known when k rings, of `at` vertices together, were passed: the rings left decide, their sizes are allowed and fit, and the number so far is small
 pub record Past (xs ys : List ℤ) (sizes : List ℕ) (R : Point) (about : ℤ) (at k : ℕ) : Type 0 where
-  pub lies : liesFrom k about (parts (given (drop k sizes)) (drop at (points xs ys))) R ≡ Whole xs ys sizes R
-  pub sized : someOutside (given (drop k sizes)) ≡ false
+  pub lies : lies_from k about (parts (given (drop k sizes)) (drop at (points xs ys))) R ≡ Whole xs ys sizes R
+  pub sized : some_outside (given (drop k sizes)) ≡ false
   pub fits : at + sum (given (drop k sizes)) ≤ length xs
-  pub few : nat_abs about ≤ k * mostTurns
+  pub few : nat_abs about ≤ k * most_turns
 
 pub past-none : (xs ys : List ℤ) (sizes : List ℕ) (R : Point) → Ready xs ys sizes R → Past xs ys sizes R (pos 0) 0 0
 past-none xs ys sizes R r = record { lies = refl; sized = r.sized; fits = omega (arith, r.fits); few = omega arith }
 
 none_left : (xs ys : List ℤ) (sizes : List ℕ) (R : Point) (about : ℤ) (at k : ℕ) → Past xs ys sizes R about at k → given (drop k sizes) ≡ [] → off about ≡ Whole xs ys sizes R
-unfolding parts liesFrom
-none_left xs ys sizes R about at k past e = ap (λ ns. liesFrom k about (parts ns (drop at (points xs ys))) R) (sym e) ∙ past.lies
+unfolding parts lies_from
+none_left xs ys sizes R about at k past e = ap (λ ns. lies_from k about (parts ns (drop at (points xs ys))) R) (sym e) ∙ past.lies
 
 -- no ring is left: all nine were passed
-pub past_all : (xs ys : List ℤ) (sizes : List ℕ) (R : Point) (about : ℤ) (at k : ℕ) → Ready xs ys sizes R → Past xs ys sizes R about at k → mostRings ≤ k → off about ≡ Whole xs ys sizes R
+pub past_all : (xs ys : List ℤ) (sizes : List ℕ) (R : Point) (about : ℤ) (at k : ℕ) → Ready xs ys sizes R → Past xs ys sizes R about at k → most_rings ≤ k → off about ≡ Whole xs ys sizes R
 unfolding given
 past_all xs ys sizes R about at k ready past h = none_left xs ys sizes R about at k past (ap given (drop_of_length-le sizes {i = k} (omega (arith, ready.nine, h))))
 
@@ -125,7 +125,7 @@ past_all xs ys sizes R about at k ready past h = none_left xs ys sizes R about a
 pub record Read (xs ys : List ℤ) (sizes : List ℕ) (R : Point) (about : ℤ) (at k n : ℕ) : Type 0 where
   pub ready : Ready xs ys sizes R
   pub past : Past xs ys sizes R about at k
-  pub low : k < mostRings
+  pub low : k < most_rings
   pub here : n ≡ get_or sizes k 0
 
 module _ {xs ys : List ℤ} {sizes : List ℕ} {R : Point} {about : ℤ} {at k n : ℕ} (read : Read xs ys sizes R about at k n) where
@@ -136,7 +136,7 @@ module _ {xs ys : List ℤ} {sizes : List ℕ} {R : Point} {about : ℤ} {at k n
   pub past_end : n ≡ 0 → off about ≡ Whole xs ys sizes R
   past_end e = none_left xs ys sizes R about at k read.past (ap given ahead ∙ given-none n (drop (k + 1) sizes) e)
 
-  pub next-few : nat_abs about ≤ mostAbout
+  pub next-few : nat_abs about ≤ most_about
   next-few = omega (arith, read.past.few, read.low)
 
   module _ (some : n ≡ 0 → ⊥) where
@@ -149,9 +149,9 @@ module _ {xs ys : List ℤ} {sizes : List ℕ} {R : Point} {about : ℤ} {at k n
     abbrev behind : List (List Point)
     behind = parts (given (drop (k + 1) sizes)) (drop (at + n) (points xs ys))
 
-    tests : (outside n || someOutside (given (drop (k + 1) sizes))) ≡ false
-    unfolding someOutside
-    tests = sym (ap someOutside next) ∙ read.past.sized
+    tests : (outside n || some_outside (given (drop (k + 1) sizes))) ≡ false
+    unfolding some_outside
+    tests = sym (ap some_outside next) ∙ read.past.sized
 
     left : at + (n + sum (given (drop (k + 1) sizes))) ≤ length xs
     unfolding sum
@@ -163,17 +163,17 @@ module _ {xs ys : List ℤ} {sizes : List ℕ} {R : Point} {about : ℤ} {at k n
     pub next-inside : at + n ≤ length xs
     next-inside = omega (arith, left)
 
-    rings : liesFrom k about (ring ∷ behind) R ≡ Whole xs ys sizes R
+    rings : lies_from k about (ring ∷ behind) R ≡ Whole xs ys sizes R
     unfolding parts
     rings =
-        ap (λ Q. liesFrom k about (ring ∷ parts (given (drop (k + 1) sizes)) Q) R) (sym (drop-drop n at (points xs ys)))
-        ∙ ap (λ ns. liesFrom k about (parts ns (drop at (points xs ys))) R) (sym next)
+        ap (λ Q. lies_from k about (ring ∷ parts (given (drop (k + 1) sizes)) Q) R) (sym (drop-drop n at (points xs ys)))
+        ∙ ap (λ ns. lies_from k about (parts ns (drop at (points xs ys))) R) (sym next)
         ∙ read.past.lies
 
-    pub past-on : (j : ℕ) (t : Touch) → liesFrom k about (ring ∷ []) R ≡ on j t → on j t ≡ Whole xs ys sizes R
+    pub past-on : (j : ℕ) (t : Touch) → lies_from k about (ring ∷ []) R ≡ on j t → on j t ≡ Whole xs ys sizes R
     past-on j t e = sym (met-first k j about ring behind R t e) ∙ rings
 
-    pub past_more : (v : ℤ) → liesFrom k about (ring ∷ []) R ≡ off v → Past xs ys sizes R v (at + n) (k + 1)
+    pub past_more : (v : ℤ) → lies_from k about (ring ∷ []) R ≡ off v → Past xs ys sizes R v (at + n) (k + 1)
     past_more v e =
         let clean = read.ready.clean in
         let (same, added) = passed_first k about v ring behind R e in
@@ -182,5 +182,5 @@ module _ {xs ys : List ℤ} {sizes : List ℕ} {R : Point} {about : ℤ} {at k n
           lies = sym same ∙ rings;
           sized = neither_right (outside n) _ tests;
           fits = omega (arith, left);
-          few = subst (λ (z : ℤ). nat_abs z ≤ (k + 1) * mostTurns) added (omega (arith, natAbs-add about (winding ring R), winding-few ring R, long, read.past.few, next-inside, clean.most));
+          few = subst (λ (z : ℤ). nat_abs z ≤ (k + 1) * most_turns) added (omega (arith, nat_abs-add about (winding ring R), winding-few ring R, long, read.past.few, next-inside, clean.most));
         }

@@ -8,21 +8,21 @@ use lib.Dec.{ltb}
 use lib.IntN.{ℤ, pos, negsuc, nat_abs, ◌-ℤ◌}
 use lib.ListN.{length}
 use Rattle.exact.specs.Sign.{Sign, plus, nought, minus, sign}
-use Rattle.exact.proofs.Bounds.{natAbs-add, natAbs-quot}
+use Rattle.exact.proofs.Bounds.{nat_abs-add, nat_abs-quot}
 use Rattle.ring.specs.declared.Point.{Point}
 use Rattle.ring.specs.Choices.{pick}
-use Rattle.ring.specs.Rings.{at, total, ringSum}
-use Rattle.ring.specs.Turns.{quadrant, determinant, twice, turnsBy, quarterTurns, winding, oddly}
-use Rattle.ring.specs.Locate.{Touch, Place, on, off, lowest, atVertex, onEdge, locatedOn}
+use Rattle.ring.specs.Rings.{at, total, ring_sum}
+use Rattle.ring.specs.Turns.{quadrant, determinant, twice, turns_by, quarter_turns, winding, oddly}
+use Rattle.ring.specs.Locate.{Touch, Place, on, off, lowest, at_vertex, on_edge, located_on}
 
 -- what the place of a point says: R is on the ring, or off it with the winding number
 pub data Told (P : List Point) (R : Point) : Place → Type 0 where
   holds : (t : Touch) → Told P R (on t)
   passed : Told P R (off (winding P R) (oddly (winding P R)))
 
-pub told : (P : List Point) (R : Point) → Told P R (locatedOn P R)
-unfolding locatedOn
-told P R = go (ltb (lowest (atVertex P R) (length P) 0) (length P)) (ltb (lowest (onEdge P R) (length P) 0) (length P)) _ _
+pub told : (P : List Point) (R : Point) → Told P R (located_on P R)
+unfolding located_on
+told P R = go (ltb (lowest (at_vertex P R) (length P) 0) (length P)) (ltb (lowest (on_edge P R) (length P) 0) (length P)) _ _
   where
     go : (a b : Bool) (t u : Touch) → Told P R (pick a (on t) (pick b (on u) (off (winding P R) (oddly (winding P R)))))
     go true b t u = holds t
@@ -32,8 +32,8 @@ told P R = go (ltb (lowest (atVertex P R) (length P) 0) (length P)) (ltb (lowest
 pub on-or-off : (t : Touch) (v : ℤ) (o : Bool) → on t ≡ off v o → ⊥
 on-or-off t v o e = let clash : ◌≡◌ {A = ℕ} 0 1 = cc in let f : ⊥ = omega arith in f
 
-pub off-winding : (P : List Point) (R : Point) (v : ℤ) (o : Bool) → locatedOn P R ≡ off v o → v ≡ winding P R
-off-winding P R v o = go (locatedOn P R) (told P R)
+pub off-winding : (P : List Point) (R : Point) (v : ℤ) (o : Bool) → located_on P R ≡ off v o → v ≡ winding P R
+off-winding P R v o = go (located_on P R) (told P R)
   where
     go : (p : Place) → Told P R p → p ≡ off v o → v ≡ winding P R
     go p (holds t) e = absurd (on-or-off t v o e)
@@ -46,7 +46,7 @@ half-few plus = omega arith
 half-few nought = omega arith
 half-few minus = omega arith
 
-turns-few : (d h : ℤ) → nat_abs h ≤ 2 → nat_abs (turnsBy d h) ≤ 2
+turns-few : (d h : ℤ) → nat_abs h ≤ 2 → nat_abs (turns_by d h) ≤ 2
 turns-few (pos zero) h e = omega arith
 turns-few (pos (suc zero)) h e = omega arith
 turns-few (negsuc (suc (suc k))) h e = omega arith
@@ -55,15 +55,15 @@ turns-few (pos (suc (suc (suc k)))) h e = omega arith
 turns-few (pos (suc (suc zero))) h e = e
 turns-few (negsuc (suc zero)) h e = e
 
-quarters-few : (R P Q : Point) → nat_abs (quarterTurns R P Q) ≤ 2
-unfolding quarterTurns
+quarters-few : (R P Q : Point) → nat_abs (quarter_turns R P Q) ≤ 2
+unfolding quarter_turns
 quarters-few R P Q = turns-few (pos (quadrant R Q) -ℤ pos (quadrant R P)) (twice (sign (determinant R P Q))) (half-few (sign (determinant R P Q)))
 
-total-few : (R : Point) (s : ℕ → Point) (k : ℕ) → nat_abs (total (quarterTurns R) s k) ≤ k * 2
+total-few : (R : Point) (s : ℕ → Point) (k : ℕ) → nat_abs (total (quarter_turns R) s k) ≤ k * 2
 unfolding total
 total-few R s zero = omega arith
-total-few R s (suc k) = let rest = total-few R s k in omega (arith, rest, quarters-few R (s k) (s (suc k)), natAbs-add (total (quarterTurns R) s k) (quarterTurns R (s k) (s (suc k))))
+total-few R s (suc k) = let rest = total-few R s k in omega (arith, rest, quarters-few R (s k) (s (suc k)), nat_abs-add (total (quarter_turns R) s k) (quarter_turns R (s k) (s (suc k))))
 
 pub winding-few : (P : List Point) (R : Point) → nat_abs (winding P R) ≤ length P * 2
-unfolding winding ringSum
-winding-few P R = omega (arith, natAbs-quot (ringSum (quarterTurns R) P) (pos 4), total-few R (at P) (length P))
+unfolding winding ring_sum
+winding-few P R = omega (arith, nat_abs-quot (ring_sum (quarter_turns R) P) (pos 4), total-few R (at P) (length P))

@@ -11,32 +11,32 @@ use lib.ListN.{length, get_or, drop, drop_of_length-le}
 use lib.Seq.{drop-cons}
 use borrow.Author.Tests.{ltb-true, ltb-false, eq-eqb, ne_eqb}
 use Rattle.ring.proofs.Pick.{neither_left, neither_right}
-use Rattle.areas.specs.Lengths.{sum, outside, someOutside, noRings}
+use Rattle.areas.specs.Lengths.{sum, outside, some_outside, no_rings}
 
 -- some length is no ring's, or so many points are not used exactly
 abbrev misused : ℕ → List ℕ → Bool
-misused left lengths = someOutside lengths || not (eqb (sum lengths) left)
+misused left lengths = some_outside lengths || not (eqb (sum lengths) left)
 
 -- after the first i lengths the others decide, by the points left
 abbrev pub Left : ℕ → List ℕ → ℕ → ℕ → Type 0
-Left points lengths left i = misused left (drop i lengths) ≡ noRings points lengths
+Left points lengths left i = misused left (drop i lengths) ≡ no_rings points lengths
 
 module _ (points : ℕ) (lengths : List ℕ) where
   -- the tests that come first
   abbrev early : Bool
   early = eqb (points % 2) 1 || eqb (length lengths) 0
 
-  first-tests : noRings points lengths ≡ (early || misused (points / 2) lengths)
+  first-tests : no_rings points lengths ≡ (early || misused (points / 2) lengths)
   first-tests = sym (or_assoc (eqb (points % 2) 1) (eqb (length lengths) 0) (misused (points / 2) lengths))
 
-  pub left-early : early ≡ true → true ≡ noRings points lengths
+  pub left-early : early ≡ true → true ≡ no_rings points lengths
   left-early e = sym (first-tests ∙ ap (λ (b : Bool). b || misused (points / 2) lengths) e)
 
   pub left-start : early ≡ false → Left points lengths (points / 2) 0
   left-start e = sym (first-tests ∙ ap (λ (b : Bool). b || misused (points / 2) lengths) e)
 
-  pub left_end : (left i : ℕ) → Left points lengths left i → length lengths ≤ i → (r : Bool) → (0 < left → r ≡ true) → (left ≡ 0 → r ≡ false) → r ≡ noRings points lengths
-  unfolding sum someOutside
+  pub left_end : (left i : ℕ) → Left points lengths left i → length lengths ≤ i → (r : Bool) → (0 < left → r ≡ true) → (left ≡ 0 → r ≡ false) → r ≡ no_rings points lengths
+  unfolding sum some_outside
   left_end left i l h r some none = go left some none ∙ sym (ap (misused left) (drop_of_length-le lengths {i = i} h)) ∙ l
     where
       go : (m : ℕ) → (0 < m → r ≡ true) → (m ≡ 0 → r ≡ false) → r ≡ misused m []
@@ -56,12 +56,12 @@ module _ {points : ℕ} {lengths : List ℕ} {left i n : ℕ} (read : Read point
   abbrev late : Bool
   late = outside n || ltb left n
 
-  ahead : misused left (n ∷ rest) ≡ noRings points lengths
+  ahead : misused left (n ∷ rest) ≡ no_rings points lengths
   ahead = ap (misused left) (sym (drop-cons lengths i 0 read.low ∙ (λ j. sym read.here j ∷ drop (sym (add-one i) j) lengths))) ∙ read.before
 
-  pub left-late : late ≡ true → true ≡ noRings points lengths
-  unfolding sum someOutside
-  left-late e = sym (go (outside n) (ltb left n) (someOutside rest) e (λ f. ne_eqb (n + sum rest) left (λ g. let c : ⊥ = omega (arith, g, ltb-true left n f) in c))) ∙ ahead
+  pub left-late : late ≡ true → true ≡ no_rings points lengths
+  unfolding sum some_outside
+  left-late e = sym (go (outside n) (ltb left n) (some_outside rest) e (λ f. ne_eqb (n + sum rest) left (λ g. let c : ⊥ = omega (arith, g, ltb-true left n f) in c))) ∙ ahead
     where
       go : {t : Bool} (a b s : Bool) → (a || b) ≡ true → (b ≡ true → t ≡ false) → ((a || s) || not t) ≡ true
       go true b s e f = refl
@@ -79,5 +79,5 @@ module _ {points : ℕ} {lengths : List ℕ} {left i n : ℕ} (read : Read point
   ]
 
   pub left-more : late ≡ false → Left points lengths (left - n) (i + 1)
-  unfolding sum someOutside
-  left-more e = sym (λ j. (neither_left (outside n) _ e j || someOutside rest) || not (fewer (left-enough e) j)) ∙ ahead
+  unfolding sum some_outside
+  left-more e = sym (λ j. (neither_left (outside n) _ e j || some_outside rest) || not (fewer (left-enough e) j)) ∙ ahead

@@ -4,7 +4,7 @@ use Rattle.ring.specs.declared.Point.{Point}
 use Rattle.ring.specs.Choices.{pick}
 use Rattle.ring.specs.Turns.{winding}
 use Rattle.ring.specs.Locate as Locate
-use Rattle.ring.specs.Locate.{Touch, Place, locatedOn, touch_of}
+use Rattle.ring.specs.Locate.{Touch, Place, located_on, touch_of}
 use Rattle.areas.specs.declared.Lying.{Lying}
 use Rattle.areas.specs.declared.Lying.TheVariants.{On, Off}
 
@@ -24,13 +24,13 @@ given (suc n ∷ ns) = suc n ∷ given ns
 -- ---- sums over rings
 
 -- what the rings weigh together, for any weight of a ring
-unfoldable pub sumOver : (List Point → ℤ) → List (List Point) → ℤ
-sumOver f [] = pos 0
-sumOver f (P ∷ Ps) = f P +ℤ sumOver f Ps
+unfoldable pub sum_over : (List Point → ℤ) → List (List Point) → ℤ
+sum_over f [] = pos 0
+sum_over f (P ∷ Ps) = f P +ℤ sum_over f Ps
 
 -- the winding number about an area: the sum over its rings
-unfoldable pub windingAbout : List (List Point) → Point → ℤ
-windingAbout Ps R = sumOver (λ P. winding P R) Ps
+unfoldable pub winding_about : List (List Point) → Point → ℤ
+winding_about Ps R = sum_over (λ P. winding P R) Ps
 
 -- the rings that pass a test, in their order
 unfoldable pub passing : (List Point → Bool) → List (List Point) → List (List Point)
@@ -44,21 +44,21 @@ pub data Lie : Type 0 where
   on : ℕ → Touch → Lie
   off : ℤ → Lie
 
--- by where R lies to ring k: on it, or by the rings behind it, with the winding number about all up to ring k. (No ring is refused: `locatedOn` says on or off.)
-abbrev pub afterRing : ℕ → ℤ → Place → (ℤ → Lie) → Lie
-afterRing k w (Locate.on t) behind = on k t
-afterRing k w (Locate.off v o) behind = behind (w +ℤ v)
-afterRing k w (Locate.refused n) behind = behind w
+-- by where R lies to ring k: on it, or by the rings behind it, with the winding number about all up to ring k. (No ring is refused: `located_on` says on or off.)
+abbrev pub after_ring : ℕ → ℤ → Place → (ℤ → Lie) → Lie
+after_ring k w (Locate.on t) behind = on k t
+after_ring k w (Locate.off v o) behind = behind (w +ℤ v)
+after_ring k w (Locate.refused n) behind = behind w
 
 -- by the rings from number k on, the first that holds R deciding; w is the winding number about those before
-unfoldable pub liesFrom : ℕ → ℤ → List (List Point) → Point → Lie
-liesFrom k w [] R = off w
-liesFrom k w (P ∷ Ps) R = afterRing k w (locatedOn P R) (λ v. liesFrom (k + 1) v Ps R)
+unfoldable pub lies_from : ℕ → ℤ → List (List Point) → Point → Lie
+lies_from k w [] R = off w
+lies_from k w (P ∷ Ps) R = after_ring k w (located_on P R) (λ v. lies_from (k + 1) v Ps R)
 
-abbrev pub liesIn : List (List Point) → Point → Lie
-liesIn Ps R = liesFrom 0 (pos 0) Ps R
+abbrev pub lies_in : List (List Point) → Point → Lie
+lies_in Ps R = lies_from 0 (pos 0) Ps R
 
 -- what the code's enum says
-abbrev pub lieOf : Lying → Lie
-lieOf (On k t) = on k (touch_of t)
-lieOf (Off w) = off w.0
+abbrev pub lie_of : Lying → Lie
+lie_of (On k t) = on k (touch_of t)
+lie_of (Off w) = off w.0

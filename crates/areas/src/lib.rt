@@ -4,10 +4,10 @@ mod lengths;
 
 ghost use Rattle.std.specs.Prelude.{◌≡◌, [], ◌∷◌, ◌+◌, ◌≤◌, nat_abs, ◌+ℤ◌, length, take, drop};
 ghost use Rattle.ring.specs.Columns.{points};
-ghost use Rattle.ring.specs.Walk.{mostTurns};
+ghost use Rattle.ring.specs.Walk.{most_turns};
 ghost use Rattle.columns.specs.Walk.{Clean};
-ghost use Rattle.areas.specs.Areas.{parts, given, liesFrom, liesIn, lieOf};
-ghost use Rattle.areas.specs.Walk.{Ready, mostAbout};
+ghost use Rattle.areas.specs.Areas.{parts, given, lies_from, lies_in, lie_of};
+ghost use Rattle.areas.specs.Walk.{Ready, most_about};
 
 pub use lengths::{no_rings, too_many_lakes};
 use ring::{Located, Point, Touch, Winding};
@@ -23,8 +23,8 @@ pub enum Lying {
 }
 
 fn sum(about: Winding, w: Winding) -> Winding
-    requires about_bound { nat_abs about.0 ≤ mostAbout }
-    requires w_bound { nat_abs w.0 ≤ mostTurns }
+    requires about_bound { nat_abs about.0 ≤ most_about }
+    requires w_bound { nat_abs w.0 ≤ most_turns }
     ensures { result.0 ≡ about.0 +ℤ w.0 }
 {
     Winding(about.0 + w.0)
@@ -42,8 +42,8 @@ fn next_ring(
 ) -> Lying
     requires clean { Clean xs.now ys.now r }
     requires le_n { (3 ≤ n) × (at + n ≤ length xs.now) }
-    requires about_bound { nat_abs about.0 ≤ mostAbout }
-    ensures { lieOf result ≡ liesFrom k about.0 (take n (drop at (points xs.now ys.now)) ∷ []) r }
+    requires about_bound { nat_abs about.0 ≤ most_about }
+    ensures { lie_of result ≡ lies_from k about.0 (take n (drop at (points xs.now ys.now)) ∷ []) r }
 {
     let to = at + n;
     match columns::locate_on(&xs[at..to], &ys[at..to], r) {
@@ -56,7 +56,7 @@ fn next_ring(
 // Where r lies to the area whose rings the columns hold, one behind the other. Of its nine sizes, one for each ring, those behind a 0 are not looked at.
 pub fn locate_on(xs: &[i32], ys: &[i32], sizes: &[u32], r: Point) -> Lying
     requires { Ready xs.now ys.now sizes.now r }
-    ensures { lieOf result ≡ liesIn (parts (given sizes.now) (points xs.now ys.now)) r }
+    ensures { lie_of result ≡ lies_in (parts (given sizes.now) (points xs.now ys.now)) r }
 {
     let mut about = Winding(0);
     let mut at = 0;

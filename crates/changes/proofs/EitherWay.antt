@@ -10,8 +10,8 @@ use Rattle.districts.specs.Register.{Register}
 use Rattle.districts.specs.Lent.{Lists, formed, means, Leaves}
 use Rattle.districts.specs.Pairs as Pairs
 use Rattle.districts.proofs.Pairs.{same-meaning, same-formed, ends-alike}
-use Rattle.judging.specs.Splitting.{lowestUnused, splitTests}
-use Rattle.judging.specs.Merging.{mergeTests}
+use Rattle.judging.specs.Splitting.{lowest_unused, split_tests}
+use Rattle.judging.specs.Merging.{merge_tests}
 use Rattle.changes.specs.declared.Changed.{Changed}
 use Rattle.changes.specs.Answers.{answer_of, answers}
 use Rattle.changes.specs.Afterwards.{split, merge}
@@ -30,13 +30,13 @@ module _ (v : Bool → Register → Verdict) (d : Register → ℕ) (g : Registe
       (answer-injective r s (f.said ∙ (λ i. answers (v (well i) (same i)) (d (same i))) ∙ sym said), ends.0, ends.1)
 
 pub split-either-way : (r s : Changed) (d i j : ℕ) (path : List ℤ) (l l' : Lists) (p p' : Pairs.Lists) → Pairs.Alike l p → SplitBy r d i j path l l'
-    → answer_of s ≡ answers (verdict (splitTests (Pairs.formed p) (Pairs.means p) d i j path)) (lowestUnused (Pairs.means p))
-    → Pairs.Leaves (verdict (splitTests (Pairs.formed p) (Pairs.means p) d i j path)) (split (Pairs.means p) d i j (vertices path)) p p'
+    → answer_of s ≡ answers (verdict (split_tests (Pairs.formed p) (Pairs.means p) d i j path)) (lowest_unused (Pairs.means p))
+    → Pairs.Leaves (verdict (split_tests (Pairs.formed p) (Pairs.means p) d i j path)) (split (Pairs.means p) d i j (vertices path)) p p'
     → (r ≡ s) × (means l' ≡ Pairs.means p') × (formed l' ≡ Pairs.formed p')
-split-either-way r s d i j path = change-either-way (λ b g. verdict (splitTests b g d i j path)) lowestUnused (λ g. split g d i j (vertices path)) r s
+split-either-way r s d i j path = change-either-way (λ b g. verdict (split_tests b g d i j path)) lowest_unused (λ g. split g d i j (vertices path)) r s
 
 pub merge-either-way : (r s : Changed) (A a B b k : ℕ) (l l' : Lists) (p p' : Pairs.Lists) → Pairs.Alike l p → MergeBy r A a B b k l l'
-    → answer_of s ≡ answers (verdict (mergeTests (Pairs.formed p) (Pairs.means p) A a B b k)) A
-    → Pairs.Leaves (verdict (mergeTests (Pairs.formed p) (Pairs.means p) A a B b k)) (merge (Pairs.means p) A a B b k) p p'
+    → answer_of s ≡ answers (verdict (merge_tests (Pairs.formed p) (Pairs.means p) A a B b k)) A
+    → Pairs.Leaves (verdict (merge_tests (Pairs.formed p) (Pairs.means p) A a B b k)) (merge (Pairs.means p) A a B b k) p p'
     → (r ≡ s) × (means l' ≡ Pairs.means p') × (formed l' ≡ Pairs.formed p')
-merge-either-way r s A a B b k = change-either-way (λ c g. verdict (mergeTests c g A a B b k)) (λ g. A) (λ g. merge g A a B b k) r s
+merge-either-way r s A a B b k = change-either-way (λ c g. verdict (merge_tests c g A a B b k)) (λ g. A) (λ g. merge g A a B b k) r s

@@ -10,13 +10,13 @@ use lib.ListN.{length, set}
 use lib.Seq.{set-set, set_comm}
 use borrow.Author.Tests.{le-leb, lt-leb}
 use Rattle.ring.specs.declared.Point.{Point}
-use Rattle.ring.specs.Grid.{someBeyond}
+use Rattle.ring.specs.Grid.{some_beyond}
 use Rattle.ring.proofs.Pick.{pick_true, pick-false}
 use Rattle.districts.specs.Register.{Slot, unused, ring, Register}
-use Rattle.districts.specs.Lists.{outlineSize, firstPlace, size, meaning}
+use Rattle.districts.specs.Lists.{outline_size, first_place, size, meaning}
 use Rattle.districts.specs.WellFormed.{total}
 use Rattle.room.specs.Runs.{run}
-use Rattle.room.specs.Writing.{numbersOf, Left}
+use Rattle.room.specs.Writing.{numbers_of, Left}
 use Rattle.room.proofs.Written.{run-rest}
 use Rattle.room.proofs.Forms.{Sound}
 use Rattle.room.proofs.Leaving.{left-total, left-sound, left-meaning}
@@ -46,25 +46,25 @@ module _ (store : List Point) (runs : List ℕ) (A B : ℕ) (p : Pair runs A B) 
   first-total = left-total store runs A store₁ runs₁ p.first l
 
   -- the other's run stays, or moves down with what stands after the first's
-  pub still-inside : firstPlace runs₁ B + size runs₁ B ≤ total runs₁
+  pub still-inside : first_place runs₁ B + size runs₁ B ≤ total runs₁
   still-inside = say p.apart
     where
       end : ℕ
-      end = firstPlace runs A + size runs A
+      end = first_place runs A + size runs A
 
-      say : (end ≤ firstPlace runs B) ⊎ (firstPlace runs B + size runs B ≤ firstPlace runs A) → firstPlace runs₁ B + size runs₁ B ≤ total runs₁
+      say : (end ≤ first_place runs B) ⊎ (first_place runs B + size runs B ≤ first_place runs A) → first_place runs₁ B + size runs₁ B ≤ total runs₁
       say (inl after) =
-          let place = l.places B p.second other ∙ pick_true (le-leb end (firstPlace runs B) after) _ _ in
+          let place = l.places B p.second other ∙ pick_true (le-leb end (first_place runs B) after) _ _ in
           omega (arith, place, second-size, first-total, p.second-inside)
       say (inr before) =
-          let place = l.places B p.second other ∙ pick-false (lt-leb end (firstPlace runs B) (omega (arith, p.more, p.some))) _ _ in
+          let place = l.places B p.second other ∙ pick-false (lt-leb end (first_place runs B) (omega (arith, p.more, p.some))) _ _ in
           omega (arith, place, second-size, first-total, p.first-inside)
 
 -- ---- both have left, and the result is taken
 
 module _ (outline store : List Point) (runs : List ℕ) (A B : ℕ) (P : List Point) (store' : List Point) (runs' : List ℕ)
-    (good : Sound outline store runs) (some : 0 < outlineSize runs) (p : Pair runs A B)
-    (least : 3 ≤ length P) (room : length P ≤ size runs A + size runs B) (grid : someBeyond (numbersOf P) ≡ false)
+    (good : Sound outline store runs) (some : 0 < outline_size runs) (p : Pair runs A B)
+    (least : 3 ≤ length P) (room : length P ≤ size runs A + size runs B) (grid : some_beyond (numbers_of P) ≡ false)
     (v : Joined store runs A B P store' runs') where
   good₁ : Sound outline v.store₁ v.runs₁
   good₁ = left-sound outline store runs A v.store₁ v.runs₁ good p.first p.some v.first
@@ -78,7 +78,7 @@ module _ (outline store : List Point) (runs : List ℕ) (A B : ℕ) (P : List Po
   good₂ : Sound outline v.store₂ v.runs₂
   good₂ = left-sound outline v.store₁ v.runs₁ B v.store₂ v.runs₂ good₁ p.second used₁ v.second
 
-  some₂ : 0 < outlineSize v.runs₂
+  some₂ : 0 < outline_size v.runs₂
   some₂ = omega (arith, some, v.first.outline-same, v.second.outline-same)
 
   free₂ : size v.runs₂ A ≡ 0

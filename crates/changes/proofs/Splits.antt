@@ -8,11 +8,11 @@ use mathlib.Core.List.{List}
 use lib.ListN.{length}
 use lib.Seq.{set-set}
 use Rattle.ring.specs.declared.Point.{Point}
-use Rattle.ring.specs.Grid.{someBeyond}
+use Rattle.ring.specs.Grid.{some_beyond}
 use Rattle.districts.specs.Register.{unused, ring, Register}
-use Rattle.districts.specs.Lists.{outlineSize, size, meaning}
+use Rattle.districts.specs.Lists.{outline_size, size, meaning}
 use Rattle.districts.specs.WellFormed.{total}
-use Rattle.room.specs.Writing.{numbersOf}
+use Rattle.room.specs.Writing.{numbers_of}
 use Rattle.changes.specs.Performing.{Divided}
 use Rattle.room.proofs.Entering.{entered-other-size, added-total}
 use Rattle.room.proofs.Additions.{given, added-sound, added-meaning, added-outline}
@@ -20,10 +20,10 @@ use Rattle.room.proofs.Forms.{Sound}
 use Rattle.room.proofs.Leaving.{left-total, left-sound, left-meaning}
 
 module _ (outline store : List Point) (runs : List ℕ) (d e : ℕ) (one two : List Point) (store' : List Point) (runs' : List ℕ)
-    (good : Sound outline store runs) (some : 0 < outlineSize runs)
+    (good : Sound outline store runs) (some : 0 < outline_size runs)
     (below : d < 64) (used : 0 < size runs d) (other : e < 64) (free : size runs e ≡ 0)
     (least : (3 ≤ length one) × (3 ≤ length two)) (room : total runs + length one + length two ≤ 2048 + size runs d)
-    (grid : (someBeyond (numbersOf one) ≡ false) × (someBeyond (numbersOf two) ≡ false))
+    (grid : (some_beyond (numbers_of one) ≡ false) × (some_beyond (numbers_of two) ≡ false))
     (v : Divided store runs d e one two store' runs') where
   g : Register
   g = meaning outline store runs
@@ -37,7 +37,7 @@ module _ (outline store : List Point) (runs : List ℕ) (d e : ℕ) (one two : L
   total₁ : total v.runs₁ + size runs d ≡ total runs
   total₁ = left-total store runs d v.store₁ v.runs₁ below v.left
 
-  some₁ : 0 < outlineSize v.runs₁
+  some₁ : 0 < outline_size v.runs₁
   some₁ = omega (arith, v.left.outline-same)
 
   room₁ : total v.runs₁ + length one ≤ 2048
@@ -49,7 +49,7 @@ module _ (outline store : List Point) (runs : List ℕ) (d e : ℕ) (one two : L
   total₂ : total v.runs₂ ≡ total v.runs₁ + length one
   total₂ = added-total v.store₁ v.runs₁ d one v.store₂ v.runs₂ v.left.long-runs below v.left.gone v.first
 
-  some₂ : 0 < outlineSize v.runs₂
+  some₂ : 0 < outline_size v.runs₂
   some₂ = omega (arith, some₁, added-outline outline v.store₁ v.runs₁ d one v.store₂ v.runs₂ good₁ some₁ below v.left.gone least.0 room₁ grid.0 v.first)
 
   free₂ : size v.runs₂ e ≡ 0

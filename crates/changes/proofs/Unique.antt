@@ -9,7 +9,7 @@ use Rattle.refusals.specs.Verdicts.{Verdict, accept, refuse}
 use Rattle.districts.specs.Lent.{Lists, formed, means, Leaves}
 use Rattle.districts.proofs.Unique.{both_left}
 use Rattle.refusals.specs.declared.Refusal.{Refusal}
-use Rattle.refusals.proofs.Numbers.{refusalOf, refusal-back}
+use Rattle.refusals.proofs.Numbers.{refusal_of, refusal-back}
 use Rattle.changes.specs.declared.Changed.{Changed}
 use Rattle.changes.specs.declared.Changed.TheVariants.{Done, Refused}
 use Rattle.refusals.specs.Numbers.{number_of}
@@ -19,7 +19,7 @@ use Rattle.changes.specs.Calls.{ChangedBy, SplitBy, MergeBy}
 -- the rules' numbers read back
 abbrev code_of : Answer → Changed
 code_of (done d) = Done d
-code_of (refused n) = Refused (refusalOf n)
+code_of (refused n) = Refused (refusal_of n)
 
 code-back : (r : Changed) → code_of (answer_of r) ≡ r
 code-back (Done d) = refl

@@ -5,8 +5,8 @@ use Rattle.districts.specs.Register.{Register}
 use Rattle.refusals.specs.Verdicts.{Verdict, verdict}
 use Rattle.districts.specs.Lent.{Lists, formed, means, Leaves}
 use Rattle.changes.specs.declared.Changed.{Changed}
-use Rattle.judging.specs.Splitting.{lowestUnused, splitTests}
-use Rattle.judging.specs.Merging.{mergeTests}
+use Rattle.judging.specs.Splitting.{lowest_unused, split_tests}
+use Rattle.judging.specs.Merging.{merge_tests}
 use Rattle.changes.specs.Answers.{answer_of, answers}
 use Rattle.changes.specs.Afterwards.{split, merge}
 
@@ -18,8 +18,8 @@ pub record ChangedBy (v : Verdict) (d : ℕ) (g : Register) (r : Changed) (befor
 
 -- splitting: the new piece's number, and the split register
 abbrev pub SplitBy : Changed → ℕ → ℕ → ℕ → List ℤ → Lists → Lists → Type 0
-SplitBy r d i j path before after = ChangedBy (verdict (splitTests (formed before) (means before) d i j path)) (lowestUnused (means before)) (split (means before) d i j (vertices path)) r before after
+SplitBy r d i j path before after = ChangedBy (verdict (split_tests (formed before) (means before) d i j path)) (lowest_unused (means before)) (split (means before) d i j (vertices path)) r before after
 
 -- merging: the kept number, and the merged register
 abbrev pub MergeBy : Changed → ℕ → ℕ → ℕ → ℕ → ℕ → Lists → Lists → Type 0
-MergeBy r A a B b k before after = ChangedBy (verdict (mergeTests (formed before) (means before) A a B b k)) A (merge (means before) A a B b k) r before after
+MergeBy r A a B b k before after = ChangedBy (verdict (merge_tests (formed before) (means before) A a B b k)) A (merge (means before) A a B b k) r before after

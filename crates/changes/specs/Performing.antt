@@ -1,7 +1,7 @@
 -- What performing a change leaves in the store's points and the runs, one step after the other. No public promise cites it. Assumes nothing.
 use Rattle.std.specs.Prelude.{ℕ, ◌+◌, ◌≤◌, ◌<◌, ◌≡◌, List, ◌⊎◌, length}
 use Rattle.ring.specs.declared.Point.{Point}
-use Rattle.districts.specs.Lists.{firstPlace, size}
+use Rattle.districts.specs.Lists.{first_place, size}
 use Rattle.districts.specs.WellFormed.{total}
 use Rattle.room.specs.Writing.{Left, Added}
 
@@ -24,9 +24,9 @@ pub record Pair (runs : List ℕ) (A B : ℕ) : Type 0 where
   pub differ : A ≡ B → ⊥
   pub some : 0 < size runs A
   pub more : 0 < size runs B
-  pub first-inside : firstPlace runs A + size runs A ≤ total runs
-  pub second-inside : firstPlace runs B + size runs B ≤ total runs
-  pub apart : (firstPlace runs A + size runs A ≤ firstPlace runs B) ⊎ (firstPlace runs B + size runs B ≤ firstPlace runs A)
+  pub first-inside : first_place runs A + size runs A ≤ total runs
+  pub second-inside : first_place runs B + size runs B ≤ total runs
+  pub apart : (first_place runs A + size runs A ≤ first_place runs B) ⊎ (first_place runs B + size runs B ≤ first_place runs A)
 
 -- what a merge leaves: numbers A and B have left, then A took the result
 pub record Joined (store : List Point) (runs : List ℕ) (A B : ℕ) (P : List Point) (store' : List Point) (runs' : List ℕ) : Type 0 where

@@ -2,7 +2,7 @@
 ghost use Rattle.std.specs.Prelude.{◌≡◌, ◌+◌, ◌<◌, ◌≤◌, length};
 ghost use Rattle.ring.specs.Grid.{vertices};
 ghost use Rattle.ring.specs.Columns.{points};
-ghost use Rattle.districts.specs.Lists.{firstPlace, size as size_of, part};
+ghost use Rattle.districts.specs.Lists.{first_place, size as size_of, part};
 ghost use Rattle.changes.specs.declared.Changed.TheVariants.{Done};
 ghost use Rattle.districts.specs.Lent.{lent, formed};
 ghost use Rattle.judging.specs.Merging.{merged};
@@ -66,7 +66,7 @@ fn perform(
     requires sx_len { (length sx.old ≡ 2048) × (length sy.old ≡ 2048) × Pair runs.old kept gone }
     requires a_bound { (a < size_of runs.old kept) × (b < size_of runs.old gone) }
     requires le_k { (1 ≤ k) × (k < size_of runs.old kept) × (k < size_of runs.old gone) }
-    ensures { (result ≡ Done kept) × Joined (points sx.old sy.old) runs.old kept gone (merged (part (points sx.old sy.old) (firstPlace runs.old kept) (size_of runs.old kept)) a (part (points sx.old sy.old) (firstPlace runs.old gone) (size_of runs.old gone)) b k) (points sx.new sy.new) runs.new }
+    ensures { (result ≡ Done kept) × Joined (points sx.old sy.old) runs.old kept gone (merged (part (points sx.old sy.old) (first_place runs.old kept) (size_of runs.old kept)) a (part (points sx.old sy.old) (first_place runs.old gone) (size_of runs.old gone)) b k) (points sx.new sy.new) runs.new }
 {
     let mut ring = [0i32; crate::RING_NUMBERS];
     let mut other = [0i32; crate::RING_NUMBERS];

@@ -2,12 +2,12 @@
 ghost use Rattle.std.specs.Prelude.{◌≡◌, ◌+◌, ◌%◌, ◌<◌, ◌≤◌, length};
 ghost use Rattle.ring.specs.Grid.{vertices};
 ghost use Rattle.ring.specs.Columns.{points};
-ghost use Rattle.districts.specs.Lists.{firstPlace, size as size_of, part};
+ghost use Rattle.districts.specs.Lists.{first_place, size as size_of, part};
 ghost use Rattle.districts.specs.WellFormed.{total as total_of};
 ghost use Rattle.changes.specs.declared.Changed.TheVariants.{Done};
 ghost use Rattle.districts.specs.Lent.{lent, formed};
-ghost use Rattle.judging.specs.Judging.{lowestFree};
-ghost use Rattle.judging.specs.Splitting.{pieceOne, pieceTwo};
+ghost use Rattle.judging.specs.Judging.{lowest_free};
+ghost use Rattle.judging.specs.Splitting.{piece_one, piece_two};
 ghost use Rattle.changes.specs.Performing.{Divided};
 ghost use Rattle.changes.specs.Calls.{SplitBy};
 
@@ -29,11 +29,11 @@ fn divide(
     k: usize,
 )
     requires sx_len { (length sx.old ≡ 2048) × (length sy.old ≡ 2048) × (length runs.old ≡ 129) × (d < 64) × (e < 64) }
-    requires ring_len { (length ring.now ≡ n + n) × (size_of runs.old d ≡ n) × (firstPlace runs.old d + n ≤ total_of runs.old) }
+    requires ring_len { (length ring.now ≡ n + n) × (size_of runs.old d ≡ n) × (first_place runs.old d + n ≤ total_of runs.old) }
     requires i_lt_n { (i < n) × (j < n) × (i ≡ j → ⊥) }
     requires path_len { length path.now ≡ k + k }
     requires k_bound { total_of runs.old + 2 + (k + k) ≤ 2048 }
-    ensures { Divided (points sx.old sy.old) runs.old d e (pieceOne (vertices ring.now) i j (vertices path.now)) (pieceTwo (vertices ring.now) i j (vertices path.now)) (points sx.new sy.new) runs.new }
+    ensures { Divided (points sx.old sy.old) runs.old d e (piece_one (vertices ring.now) i j (vertices path.now)) (piece_two (vertices ring.now) i j (vertices path.now)) (points sx.new sy.new) runs.new }
 {
     let one = 1 + judging::steps(n, i, j);
     let two = 1 + judging::steps(n, j, i);
@@ -52,12 +52,12 @@ fn perform(
     j: usize,
     path: &[i32],
 ) -> Changed
-    requires sx_len { (length sx.old ≡ 2048) × (length sy.old ≡ 2048) × (length runs.old ≡ 129) × (d < 64) × (lowestFree runs.old < 64) }
-    requires d_bound { firstPlace runs.old d + size_of runs.old d ≤ total_of runs.old }
+    requires sx_len { (length sx.old ≡ 2048) × (length sy.old ≡ 2048) × (length runs.old ≡ 129) × (d < 64) × (lowest_free runs.old < 64) }
+    requires d_bound { first_place runs.old d + size_of runs.old d ≤ total_of runs.old }
     requires i_bound { (i < size_of runs.old d) × (j < size_of runs.old d) × (i ≡ j → ⊥) }
     requires path_len { length path.now % 2 ≡ 0 }
     requires path_bound { total_of runs.old + 2 + length path.now ≤ 2048 }
-    ensures { (result ≡ Done (lowestFree runs.old)) × Divided (points sx.old sy.old) runs.old d (lowestFree runs.old) (pieceOne (part (points sx.old sy.old) (firstPlace runs.old d) (size_of runs.old d)) i j (vertices path.now)) (pieceTwo (part (points sx.old sy.old) (firstPlace runs.old d) (size_of runs.old d)) i j (vertices path.now)) (points sx.new sy.new) runs.new }
+    ensures { (result ≡ Done (lowest_free runs.old)) × Divided (points sx.old sy.old) runs.old d (lowest_free runs.old) (piece_one (part (points sx.old sy.old) (first_place runs.old d) (size_of runs.old d)) i j (vertices path.now)) (piece_two (part (points sx.old sy.old) (first_place runs.old d) (size_of runs.old d)) i j (vertices path.now)) (points sx.new sy.new) runs.new }
 {
     let e = judging::lowest_unused(runs);
     let mut ring = [0i32; crate::RING_NUMBERS];

@@ -11,7 +11,7 @@ use lib.Signed.{lt_z, non_neg}
 use mir.Syntax.{w32, w64}
 use mir.Val.{Fits, SFits}
 use Rattle.fixes.specs.declared.Placed.{Placed}
-use Rattle.codes.specs.Codes.{Code, code, offCode, Tells, PlaceTells}
+use Rattle.codes.specs.Codes.{Code, code, off_code, Tells, PlaceTells}
 
 pub tells_as : {r : ℕ} {values : List ℕ} {c d : Code} → c ≡ d → Tells r values c → Tells r values d
 tells_as {r = r} {values = values} e t = subst (Tells r values) e t
@@ -29,7 +29,7 @@ pub below-fits : (z : ℤ) → SFits w32 z → lt_z z (pos 0) ≡ true → SFits
 below-fits (pos n) f h = absurd (omega (arith, ltb-true n 0 h))
 below-fits (negsuc n) f h = (record { sfits = omega arith }, (tt, record { fits = omega arith }))
 
-pub below_code : (z : ℤ) → lt_z z (pos 0) ≡ true → code 4 (nat_abs (pos 0 -ℤ z)) 1 ≡ offCode z
+pub below_code : (z : ℤ) → lt_z z (pos 0) ≡ true → code 4 (nat_abs (pos 0 -ℤ z)) 1 ≡ off_code z
 below_code (pos n) h = absurd (omega (arith, ltb-true n 0 h))
 below_code (negsuc n) h = let e : nat_abs (pos 0 -ℤ negsuc n) ≡ suc n = omega arith in ap (λ m. code 4 m 1) e
 
@@ -39,6 +39,6 @@ pub above-counts : (z : ℤ) → SFits w32 z → lt_z z (pos 0) ≡ false → Co
 above-counts (pos n) f h = (tt, record { fits = omega arith })
 above-counts (negsuc n) f h = absurd (subst T h tt)
 
-pub above-code : (z : ℤ) → lt_z z (pos 0) ≡ false → code 4 (nat_abs z) 0 ≡ offCode z
+pub above-code : (z : ℤ) → lt_z z (pos 0) ≡ false → code 4 (nat_abs z) 0 ≡ off_code z
 above-code (pos n) h = refl
 above-code (negsuc n) h = absurd (subst T h tt)

@@ -16,60 +16,60 @@ abbrev pub code : ℕ → ℕ → ℕ → Code
 code k a b = record { kind = k; values = a ∷ b ∷ 0 ∷ 0 ∷ 0 ∷ 0 ∷ 0 ∷ 0 ∷ [] }
 
 -- a refusal, by the rules' number
-abbrev pub refusedCode : ℕ → Code
-refusedCode n = code 0 n 0
+abbrev pub refused_code : ℕ → Code
+refused_code n = code 0 n 0
 
 -- done, with the number of the district that was made or kept; founding makes district 0, and for a fix on the grid it is 0 too
-abbrev pub doneCode : ℕ → Code
-doneCode d = code 1 d 0
+abbrev pub done_code : ℕ → Code
+done_code d = code 1 d 0
 
 -- a winding number as its size, and 1 where it is negative
-abbrev pub offCode : ℤ → Code
-offCode (pos n) = code 4 n 0
-offCode (negsuc n) = code 4 (suc n) 1
+abbrev pub off_code : ℤ → Code
+off_code (pos n) = code 4 n 0
+off_code (negsuc n) = code 4 (suc n) 1
 
 -- at vertices or on edges: the lowest index and the highest
-abbrev pub touchCode : Touch → Code
-touchCode (vertex i j) = code 2 i j
-touchCode (edge i j) = code 3 i j
+abbrev pub touch_code : Touch → Code
+touch_code (vertex i j) = code 2 i j
+touch_code (edge i j) = code 3 i j
 
-abbrev pub placeCode : Place → Code
-placeCode (on t) = touchCode t
-placeCode (off w o) = offCode w
-placeCode (refused n) = refusedCode n
+abbrev pub place_code : Place → Code
+place_code (on t) = touch_code t
+place_code (off w o) = off_code w
+place_code (refused n) = refused_code n
 
-abbrev pub verdictCode : Verdict → Code
-verdictCode accept = doneCode 0
-verdictCode (refuse n) = refusedCode n
+abbrev pub verdict_code : Verdict → Code
+verdict_code accept = done_code 0
+verdict_code (refuse n) = refused_code n
 
-abbrev pub changeCode : Changes.Answer → Code
-changeCode (Changes.done d) = doneCode d
-changeCode (Changes.refused n) = refusedCode n
+abbrev pub change_code : Changes.Answer → Code
+change_code (Changes.done d) = done_code d
+change_code (Changes.refused n) = refused_code n
 
 -- on the ring of district d, at its vertices (2) or on its edges (3), from the lowest index to the highest
-abbrev pub borderCode : ℕ → ℕ → ℕ → ℕ → Code
-borderCode d kind i j = record { kind = 5; values = d ∷ 0 ∷ kind ∷ i ∷ j ∷ 0 ∷ 0 ∷ 0 ∷ [] }
+abbrev pub border_code : ℕ → ℕ → ℕ → ℕ → Code
+border_code d kind i j = record { kind = 5; values = d ∷ 0 ∷ kind ∷ i ∷ j ∷ 0 ∷ 0 ∷ 0 ∷ [] }
 
-abbrev pub onBorderCode : ℕ → Touch → Code
-onBorderCode d (vertex i j) = borderCode d 2 i j
-onBorderCode d (edge i j) = borderCode d 3 i j
+abbrev pub on_border_code : ℕ → Touch → Code
+on_border_code d (vertex i j) = border_code d 2 i j
+on_border_code d (edge i j) = border_code d 3 i j
 
-abbrev pub classCode : Belongs → Code
-classCode (border d t) = onBorderCode d t
-classCode (one d) = code 6 d 0
-classCode none = code 7 0 0
-classCode (several d n) = code 8 d n
+abbrev pub class_code : Belongs → Code
+class_code (border d t) = on_border_code d t
+class_code (one d) = code 6 d 0
+class_code none = code 7 0 0
+class_code (several d n) = code 8 d n
 
 -- the caller knows the report's number
-abbrev pub answerCode : Answer → Code
-answerCode (report r b) = classCode b
-answerCode (Answers.refused n) = refusedCode n
+abbrev pub answer_code : Answer → Code
+answer_code (report r b) = class_code b
+answer_code (Answers.refused n) = refused_code n
 
 -- where a fix is; on the grid, its millimetres are told apart
-abbrev pub placedCode : Placed → Code
-placedCode (OnGrid x y) = doneCode 0
-placedCode BeyondGrid = refusedCode 5
-placedCode NotFinite = refusedCode 18
+abbrev pub placed_code : Placed → Code
+placed_code (OnGrid x y) = done_code 0
+placed_code BeyondGrid = refused_code 5
+placed_code NotFinite = refused_code 18
 
 -- the kind is answered, and the values stand in the lent list
 pub record Tells (r : ℕ) (lent : List ℕ) (c : Code) : Type 0 where
@@ -77,12 +77,12 @@ pub record Tells (r : ℕ) (lent : List ℕ) (c : Code) : Type 0 where
   pub values : lent ≡ c.values
 
 -- what a lent point is once a fix was placed
-abbrev pub pointFor : Placed → List ℤ → List ℤ
-pointFor (OnGrid x y) before = x ∷ y ∷ []
-pointFor BeyondGrid before = before
-pointFor NotFinite before = before
+abbrev pub point_for : Placed → List ℤ → List ℤ
+point_for (OnGrid x y) before = x ∷ y ∷ []
+point_for BeyondGrid before = before
+point_for NotFinite before = before
 
 -- a fix that was placed
 pub record PlaceTells (r : ℕ) (values : List ℕ) (p : Placed) (before after : List ℤ) : Type 0 where
-  pub tells : Tells r values (placedCode p)
-  pub left : after ≡ pointFor p before
+  pub tells : Tells r values (placed_code p)
+  pub left : after ≡ point_for p before

@@ -21,8 +21,8 @@ place_of none = 65
 place_of (several d n) = 66
 
 -- the same by an answer's kind and its first value, as they are told (Codes.antt)
-abbrev pub placeTold : ℕ → ℕ → ℕ
-placeTold kind first = pick (eqb kind 6) (place_of (one first)) (pick (eqb kind 5) 64 (pick (eqb kind 7) 65 66))
+abbrev pub place_told : ℕ → ℕ → ℕ
+place_told kind first = pick (eqb kind 6) (place_of (one first)) (pick (eqb kind 5) 64 (pick (eqb kind 7) 65 66))
 
 -- an answer a is counted in the list, and b answered
 pub record CountedBy (a b : Answer) (before after : List ℕ) : Type 0 where

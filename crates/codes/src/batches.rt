@@ -3,11 +3,11 @@
 ghost use Rattle.std.specs.Prelude.{◌≡◌, ◌++◌, ◌+◌, ◌*◌, ◌/◌, ◌≤◌, ◌<◌, length, drop};
 ghost use Rattle.districts.specs.Answers.{answer_of};
 ghost use Rattle.districts.specs.Lent.{lent, formed, means, GoodRuns};
-ghost use Rattle.refusals.specs.Verdicts.{verdict, verdictOf};
+ghost use Rattle.refusals.specs.Verdicts.{verdict, verdict_of};
 ghost use Rattle.index.specs.Both.{Indexed};
-ghost use Rattle.codes.specs.Codes.{answerCode};
+ghost use Rattle.codes.specs.Codes.{answer_code};
 ghost use Rattle.codes.specs.Counts.{tally_of};
-ghost use Rattle.codes.specs.Batches.{told, pointAt, answersTo, tallyTo, countedTo, answerBy, answer_in, roomTests, batchTests, leftBy, TallyBy, batch, CountsTold, AllCounted};
+ghost use Rattle.codes.specs.Batches.{told, point_at, answers_to, tally_to, counted_to, answer_by, answer_in, room_tests, batch_tests, left_by, TallyBy, batch, CountsTold, AllCounted};
 
 use crate::{counting, telling};
 use districts::Assigned;
@@ -20,7 +20,7 @@ const ANSWER: usize = 9;
 
 // An odd list of points, then a list that is too short for the answers; by their lengths.
 fn room(points: usize, answers: usize) -> Verdict
-    ensures { verdictOf result ≡ verdict (roomTests points answers) }
+    ensures { verdict_of result ≡ verdict (room_tests points answers) }
 {
     if points % 2 == 1 {
         return Verdict::Refused(Refusal::NoRing);
@@ -41,7 +41,7 @@ fn judged(
     points: usize,
     answers: usize,
 ) -> Verdict
-    ensures { verdictOf result ≡ verdict (batchTests (formed (lent ox.now oy.now sx.now sy.now runs.now)) (means (lent ox.now oy.now sx.now sy.now runs.now)) points answers) }
+    ensures { verdict_of result ≡ verdict (batch_tests (formed (lent ox.now oy.now sx.now sy.now runs.now)) (means (lent ox.now oy.now sx.now sy.now runs.now)) points answers) }
 {
     match districts::usable(ox, oy, sx, sy, runs) {
         Verdict::Accepted => room(points, answers),
@@ -52,7 +52,7 @@ fn judged(
 // Tells an answer in the first numbers of a list.
 fn tell(a: Assigned, answers: &mut [u64])
     requires { 9 ≤ length answers.old }
-    ensures { answers.new ≡ told (answerCode (answer_of a)) ++ drop 9 answers.old }
+    ensures { answers.new ≡ told (answer_code (answer_of a)) ++ drop 9 answers.old }
 {
     let mut values = [0u64; 8];
     let kind = telling::assigned(a, &mut values);
@@ -70,7 +70,7 @@ fn tell(a: Assigned, answers: &mut [u64])
 // Point i of a list x, y, x, y, ..
 fn point_at(points: &[i32], i: usize) -> Point
     requires { 2 * i + 1 < length points.now }
-    ensures { result ≡ pointAt points.now i }
+    ensures { result ≡ point_at points.now i }
 {
     Point {
         x: points[2 * i],
@@ -94,7 +94,7 @@ fn answer_all(
     requires good_runs { GoodRuns sx.now sy.now runs.now }
     requires indexed { Indexed sx.now sy.now runs.now bx.now by.now mx.now my.now ax ay }
     requires points_in_bounds { 9 * (length points.now / 2) ≤ length answers.old }
-    ensures { answers.new ≡ answersTo (answerBy sx.now sy.now runs.now points.now) (length points.now / 2) ++ drop (9 * (length points.now / 2)) answers.old }
+    ensures { answers.new ≡ answers_to (answer_by sx.now sy.now runs.now points.now) (length points.now / 2) ++ drop (9 * (length points.now / 2)) answers.old }
 {
     let n = points.len() / 2;
     let mut i = 0;
@@ -121,7 +121,7 @@ fn answer_all(
 fn answer_indexed(sx: &[i32], sy: &[i32], runs: &[u32], points: &[i32], answers: &mut [u64])
     requires good_runs { GoodRuns sx.now sy.now runs.now }
     requires points_in_bounds { 9 * (length points.now / 2) ≤ length answers.old }
-    ensures { answers.new ≡ answersTo (answerBy sx.now sy.now runs.now points.now) (length points.now / 2) ++ drop (9 * (length points.now / 2)) answers.old }
+    ensures { answers.new ≡ answers_to (answer_by sx.now sy.now runs.now points.now) (length points.now / 2) ++ drop (9 * (length points.now / 2)) answers.old }
 {
     let mut bx = [0i32; 128];
     let mut by = [0i32; 128];
@@ -142,7 +142,7 @@ pub fn assign_all(
     points: &[i32],
     answers: &mut [u64],
 ) -> Verdict
-    ensures { (verdictOf result ≡ batch (lent ox.now oy.now sx.now sy.now runs.now) points.now (length answers.old)) × (answers.new ≡ leftBy (verdictOf result) (answersTo (answer_in (lent ox.now oy.now sx.now sy.now runs.now) points.now) (length points.now / 2)) answers.old) }
+    ensures { (verdict_of result ≡ batch (lent ox.now oy.now sx.now sy.now runs.now) points.now (length answers.old)) × (answers.new ≡ left_by (verdict_of result) (answers_to (answer_in (lent ox.now oy.now sx.now sy.now runs.now) points.now) (length points.now / 2)) answers.old) }
 {
     match judged(ox, oy, sx, sy, runs, points.len(), answers.len()) {
         Verdict::Accepted => {
@@ -192,7 +192,7 @@ pub fn assign_all_counted(
     answers: &mut [u64],
     counts: &mut [u32; 67],
 ) -> Verdict
-    ensures { (verdictOf result ≡ batch (lent ox.now oy.now sx.now sy.now runs.now) points.now (length answers.old)) × (answers.new ≡ leftBy (verdictOf result) (answersTo (countedTo (tally_of counts.old) (answer_in (lent ox.now oy.now sx.now sy.now runs.now) points.now)) (length points.now / 2)) answers.old) × TallyBy (verdictOf result) (tallyTo (tally_of counts.old) (answer_in (lent ox.now oy.now sx.now sy.now runs.now) points.now) (length points.now / 2)) counts.old counts.new }
+    ensures { (verdict_of result ≡ batch (lent ox.now oy.now sx.now sy.now runs.now) points.now (length answers.old)) × (answers.new ≡ left_by (verdict_of result) (answers_to (counted_to (tally_of counts.old) (answer_in (lent ox.now oy.now sx.now sy.now runs.now) points.now)) (length points.now / 2)) answers.old) × TallyBy (verdict_of result) (tally_to (tally_of counts.old) (answer_in (lent ox.now oy.now sx.now sy.now runs.now) points.now) (length points.now / 2)) counts.old counts.new }
 {
     match assign_all(ox, oy, sx, sy, runs, points, answers) {
         Verdict::Accepted => {

@@ -1,7 +1,7 @@
 // The tally as a list of counts, raised in place.
 ghost use Rattle.std.specs.Prelude.{◌≡◌, ◌≤◌, length};
 ghost use Rattle.districts.specs.Answers.{one, belongs, answer_of};
-ghost use Rattle.codes.specs.Counts.{counts, place_of, placeTold, CountedBy, Raises};
+ghost use Rattle.codes.specs.Counts.{counts, place_of, place_told, CountedBy, Raises};
 
 use crate::telling;
 use districts::{Assigned, Class, NUMBERS, Report};
@@ -35,7 +35,7 @@ fn place(c: Class) -> usize
 
 // By an answer's kind, which is not that of a refusal, and its first value, as they are told.
 pub fn place_told(kind: u64, first: u64) -> usize
-    ensures { (result ≡ placeTold kind first) × (result ≤ counts) }
+    ensures { (result ≡ place_told kind first) × (result ≤ counts) }
 {
     if kind == telling::ONE as u64 {
         return place_of_one(first as usize);

@@ -1,11 +1,11 @@
 // Telling an answer: its kind, and its values in a lent list of eight.
 ghost use Rattle.ring.specs.Locate.{touch_of, place_of};
 ghost use Rattle.refusals.specs.Numbers.{number_of};
-ghost use Rattle.refusals.specs.Verdicts.{verdictOf};
+ghost use Rattle.refusals.specs.Verdicts.{verdict_of};
 ghost use Rattle.districts.specs.Answers.{belongs, answer_of};
-ghost use Rattle.register.specs.Calls.{outcomeOf};
+ghost use Rattle.register.specs.Calls.{outcome_of};
 ghost use Rattle.changes.specs.Answers as Changes;
-ghost use Rattle.codes.specs.Codes.{code, refusedCode, offCode, touchCode, placeCode, verdictCode, changeCode, borderCode, onBorderCode, classCode, answerCode, Tells, PlaceTells};
+ghost use Rattle.codes.specs.Codes.{code, refused_code, off_code, touch_code, place_code, verdict_code, change_code, border_code, on_border_code, class_code, answer_code, Tells, PlaceTells};
 
 use changes::Changed;
 use districts::{Assigned, Class};
@@ -43,14 +43,14 @@ fn told(kind: u32, a: usize, b: usize, values: &mut Values) -> u32
 }
 
 fn refused(r: Refusal, values: &mut Values) -> u32
-    ensures { Tells result values.new (refusedCode (number_of r)) }
+    ensures { Tells result values.new (refused_code (number_of r)) }
 {
     told(REFUSED, refusals::number(r), 0, values)
 }
 
 // A winding number as its size, and 1 where it is negative.
 fn off(w: Winding, values: &mut Values) -> u32
-    ensures { Tells result values.new (offCode w.0) }
+    ensures { Tells result values.new (off_code w.0) }
 {
     let turns = w.0 as i64;
     if turns < 0 {
@@ -60,7 +60,7 @@ fn off(w: Winding, values: &mut Values) -> u32
 }
 
 fn touched(t: Touch, values: &mut Values) -> u32
-    ensures { Tells result values.new (touchCode (touch_of t)) }
+    ensures { Tells result values.new (touch_code (touch_of t)) }
 {
     match t {
         Touch::Vertex(lowest, highest) => told(VERTEX, lowest, highest, values),
@@ -70,7 +70,7 @@ fn touched(t: Touch, values: &mut Values) -> u32
 
 // On the ring of district d, at vertices or on edges as `kind` tells.
 fn bordered(d: usize, kind: u32, lowest: usize, highest: usize, values: &mut Values) -> u32
-    ensures { Tells result values.new (borderCode d kind lowest highest) }
+    ensures { Tells result values.new (border_code d kind lowest highest) }
 {
     *values = [
         d as u64,
@@ -86,7 +86,7 @@ fn bordered(d: usize, kind: u32, lowest: usize, highest: usize, values: &mut Val
 }
 
 fn on_border(d: usize, t: Touch, values: &mut Values) -> u32
-    ensures { Tells result values.new (onBorderCode d (touch_of t)) }
+    ensures { Tells result values.new (on_border_code d (touch_of t)) }
 {
     match t {
         Touch::Vertex(lowest, highest) => bordered(d, VERTEX, lowest, highest, values),
@@ -95,7 +95,7 @@ fn on_border(d: usize, t: Touch, values: &mut Values) -> u32
 }
 
 pub fn place(p: Located, values: &mut Values) -> u32
-    ensures { Tells result values.new (placeCode (place_of p)) }
+    ensures { Tells result values.new (place_code (place_of p)) }
 {
     match p {
         Located::On(touch) => touched(touch, values),
@@ -105,7 +105,7 @@ pub fn place(p: Located, values: &mut Values) -> u32
 }
 
 pub fn founded(f: Founded, values: &mut Values) -> u32
-    ensures { Tells result values.new (verdictCode (outcomeOf f)) }
+    ensures { Tells result values.new (verdict_code (outcome_of f)) }
 {
     match f {
         Founded::Done => told(DONE, 0, 0, values),
@@ -114,7 +114,7 @@ pub fn founded(f: Founded, values: &mut Values) -> u32
 }
 
 pub fn judged(v: Verdict, values: &mut Values) -> u32
-    ensures { Tells result values.new (verdictCode (verdictOf v)) }
+    ensures { Tells result values.new (verdict_code (verdict_of v)) }
 {
     match v {
         Verdict::Accepted => told(DONE, 0, 0, values),
@@ -123,7 +123,7 @@ pub fn judged(v: Verdict, values: &mut Values) -> u32
 }
 
 pub fn changed(c: Changed, values: &mut Values) -> u32
-    ensures { Tells result values.new (changeCode (Changes.answer_of c)) }
+    ensures { Tells result values.new (change_code (Changes.answer_of c)) }
 {
     match c {
         Changed::Done(d) => told(DONE, d, 0, values),
@@ -132,7 +132,7 @@ pub fn changed(c: Changed, values: &mut Values) -> u32
 }
 
 fn class(c: Class, values: &mut Values) -> u32
-    ensures { Tells result values.new (classCode (belongs c)) }
+    ensures { Tells result values.new (class_code (belongs c)) }
 {
     match c {
         Class::Border(d, touch) => on_border(d, touch, values),
@@ -143,7 +143,7 @@ fn class(c: Class, values: &mut Values) -> u32
 }
 
 pub fn assigned(a: Assigned, values: &mut Values) -> u32
-    ensures { Tells result values.new (answerCode (answer_of a)) }
+    ensures { Tells result values.new (answer_code (answer_of a)) }
 {
     match a {
         Assigned::Sorted(report) => {

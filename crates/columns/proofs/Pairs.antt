@@ -13,18 +13,18 @@ use lib.Signed.{lt_z}
 use Rattle.ring.specs.declared.Point.{Point}
 use Rattle.ring.specs.declared.counting.Count.{Count}
 use Rattle.ring.specs.Columns.{points}
-use Rattle.ring.specs.Rings.{at, Weight, total, ringSum}
+use Rattle.ring.specs.Rings.{at, Weight, total, ring_sum}
 use Rattle.ring.specs.Crossings.{crossing}
 use Rattle.ring.specs.Turns.{winding}
-use Rattle.ring.specs.Segment.{onSegment}
-use Rattle.ring.specs.Locate.{onEdge}
+use Rattle.ring.specs.Segment.{on_segment}
+use Rattle.ring.specs.Locate.{on_edge}
 use Rattle.ring.specs.Walk.{Counts, none, Counted, Free}
 use Rattle.ring.proofs.Columns.{length-points, point_at}
 use Rattle.ring.proofs.Crossings.{above-row, below_row, crossings-winding}
 use Rattle.ring.proofs.Sums.{total_falls}
 use Rattle.ring.proofs.Vertices.{at-end}
 use Rattle.columns.specs.declared.rows.Crossed.{Crossed}
-use Rattle.columns.specs.Rows.{preceding, lowAt, apartAt, risesTo, fallsTo, Scanned, Twice}
+use Rattle.columns.specs.Rows.{preceding, low_at, apart_at, rises_to, falls_to, Scanned, Twice}
 use Rattle.columns.specs.Walk.{Ready}
 use Rattle.columns.proofs.Scans.{Only, only_one}
 
@@ -99,7 +99,7 @@ module _ (f : Weight) (s : ℕ → Point) where
 
 -- edge e does not hold R, and counts nothing
 abbrev Unmet : List Point → Point → ℕ → Type 0
-Unmet P R e = (onEdge P R e ≡ false) × (crossing R (at P e) (at P (suc e)) ≡ pos 0)
+Unmet P R e = (on_edge P R e ≡ false) × (crossing R (at P e) (at P (suc e)) ≡ pos 0)
 
 module _ (P : List Point) (R : Point) (n a b : ℕ) (size : length P ≡ n) (first : a < n) (second : b < n) (apart : a ≡ b → ⊥) where
   weighed : (e : ℕ) → total (crossing R) (λ j. at P (e + j)) 1 ≡ crossing R (at P e) (at P (suc e))
@@ -107,11 +107,11 @@ module _ (P : List Point) (R : Point) (n a b : ℕ) (size : length P ≡ n) (fir
   weighed e = (λ x. pos 0 +ℤ crossing R (at P (add-zero e x)) (at P (add-one e x))) ∙ +ℤ_idl (crossing R (at P e) (at P (suc e)))
 
   pub counted-two : (u v : Count) → ((e : ℕ) → e < n → (e ≡ a → ⊥) → (e ≡ b → ⊥) → Unmet P R e) → Counts P R a 1 none u → Counts P R b 1 u v → Counted P R v
-  unfolding ringSum
+  unfolding ring_sum
   counted-two u v rest p q = record { turns = turned; clear = λ h. let later = q.clear h in all (p.clear later.0).1 later.1; few = omega (arith, p.few, q.few) }
     where
       part : (e : ℕ) → e < n → Free P R 0 (length P) → Free P R e 1
-      part e h free j l = ap (onEdge P R) (sym (zero-add (e + j))) ∙ free (e + j) (omega (arith, size, h, l))
+      part e h free j l = ap (on_edge P R) (sym (zero-add (e + j))) ∙ free (e + j) (omega (arith, size, h, l))
 
       turned : Free P R 0 (length P) → v.turns ≡ winding P R
       turned free =
@@ -119,14 +119,14 @@ module _ (P : List Point) (R : Point) (n a b : ℕ) (size : length P ≡ n) (fir
           ∙ (λ i. (p.turns (part a first free) ∙ +ℤ_idl _ ∙ weighed a) i +ℤ weighed b i)
           ∙ sym (total-two (crossing R) (at P) n a b first second apart (λ e h l m. (rest e h l m).1))
           ∙ ap (total (crossing R) (at P)) (sym size)
-          ∙ crossings-winding P R (omega (arith, size, first)) (λ e h. ap (onEdge P R) (sym (zero-add e)) ∙ free e h)
+          ∙ crossings-winding P R (omega (arith, size, first)) (λ e h. ap (on_edge P R) (sym (zero-add e)) ∙ free e h)
 
       all : Free P R a 1 → Free P R b 1 → Free P R 0 (length P)
       all f g e h = elim (ℕ_discrete e a) [
-        | yes same ↦ ap (onEdge P R) (let i : 0 + e ≡ a + 0 = omega (arith, same) in i) ∙ f 0 (omega arith)
+        | yes same ↦ ap (on_edge P R) (let i : 0 + e ≡ a + 0 = omega (arith, same) in i) ∙ f 0 (omega arith)
         | no other ↦ elim (ℕ_discrete e b) [
-          | yes same ↦ ap (onEdge P R) (let i : 0 + e ≡ b + 0 = omega (arith, same) in i) ∙ g 0 (omega arith)
-          | no neither ↦ ap (onEdge P R) (zero-add e) ∙ (rest e (omega (arith, size, h)) other neither).0
+          | yes same ↦ ap (on_edge P R) (let i : 0 + e ≡ b + 0 = omega (arith, same) in i) ∙ g 0 (omega arith)
+          | no neither ↦ ap (on_edge P R) (zero-add e) ∙ (rest e (omega (arith, size, h)) other neither).0
         ]
       ]
 
@@ -134,10 +134,10 @@ module _ (P : List Point) (R : Point) (n a b : ℕ) (size : length P ≡ n) (fir
 
 -- an edge that neither rises nor falls, with no end on the row: p and q are the ends' numbers
 level : (R A B : Point) (p q : ℤ) → A.y ≡ p → B.y ≡ q → (lt_z p R.y && not (lt_z q R.y)) ≡ false → (not (lt_z p R.y) && lt_z q R.y) ≡ false
-    → (lt_z p R.y || lt_z R.y p) ≡ true → (lt_z q R.y || lt_z R.y q) ≡ true → (onSegment R A B ≡ false) × (crossing R A B ≡ pos 0)
+    → (lt_z p R.y || lt_z R.y p) ≡ true → (lt_z q R.y || lt_z R.y q) ≡ true → (on_segment R A B ≡ false) × (crossing R A B ≡ pos 0)
 level R A B p q e f = go (lt_z p R.y) (lt_z q R.y) refl refl
   where
-    go : (a b : Bool) → lt_z p R.y ≡ a → lt_z q R.y ≡ b → (a && not b) ≡ false → (not a && b) ≡ false → (a || lt_z R.y p) ≡ true → (b || lt_z R.y q) ≡ true → (onSegment R A B ≡ false) × (crossing R A B ≡ pos 0)
+    go : (a b : Bool) → lt_z p R.y ≡ a → lt_z q R.y ≡ b → (a && not b) ≡ false → (not a && b) ≡ false → (a || lt_z R.y p) ≡ true → (b || lt_z R.y q) ≡ true → (on_segment R A B ≡ false) × (crossing R A B ≡ pos 0)
     go true true c d g h k l = below_row R A B (ap (λ (z : ℤ). lt_z z R.y) e ∙ c) (ap (λ (z : ℤ). lt_z z R.y) f ∙ d)
     go true false c d g h k l = absurd (true≢false g)
     go false true c d g h k l = absurd (true≢false h)
@@ -155,11 +155,11 @@ module _ (xs ys : List ℤ) (R : Point) (ready : Ready xs ys R) (s : Crossed) (s
   abbrev even : length xs ≡ length ys
   even = ready.clean.even
 
-  rising : Only (risesTo ys R.y) (length ys) up
-  rising = only_one (risesTo ys R.y) (length ys) s.rises up scanned.rises twice.rises rises
+  rising : Only (rises_to ys R.y) (length ys) up
+  rising = only_one (rises_to ys R.y) (length ys) s.rises up scanned.rises twice.rises rises
 
-  falling : Only (fallsTo ys R.y) (length ys) down
-  falling = only_one (fallsTo ys R.y) (length ys) s.falls down scanned.falls twice.falls falls
+  falling : Only (falls_to ys R.y) (length ys) down
+  falling = only_one (falls_to ys R.y) (length ys) s.falls down scanned.falls twice.falls falls
 
   size : length P ≡ length ys
   size = length-points xs ys even ∙ even
@@ -167,7 +167,7 @@ module _ (xs ys : List ℤ) (R : Point) (ready : Ready xs ys R) (s : Crossed) (s
   height : (j : ℕ) → j < length ys → (at P j).y ≡ get_or ys j (pos 0)
   height j h = ap (λ p. p.y) (point_at xs ys j even (omega (arith, h, even)))
 
-  apart : (j : ℕ) → j < length ys → apartAt ys R.y j ≡ true
+  apart : (j : ℕ) → j < length ys → apart_at ys R.y j ≡ true
   apart = scanned.apart twice.apart
 
   -- edges that lead to other vertices
@@ -186,7 +186,7 @@ module _ (xs ys : List ℤ) (R : Point) (ready : Ready xs ys R) (s : Crossed) (s
   different : preceding (length ys) up ≡ preceding (length ys) down → ⊥
   different e =
       let same = preceding-same (length ys) up down rising.within falling.within e in
-      not-both (lowAt ys R.y (preceding (length ys) down)) (lowAt ys R.y down) (subst (λ j. risesTo ys R.y j ≡ true) same rising.hit) falling.hit
+      not-both (low_at ys R.y (preceding (length ys) down)) (low_at ys R.y down) (subst (λ j. rises_to ys R.y j ≡ true) same rising.hit) falling.hit
 
   pub counted-twice : (u v : Count) → Counts P R (preceding (length xs) up) 1 none u → Counts P R (preceding (length xs) down) 1 u v → Counted P R v
   counted-twice u v p q =

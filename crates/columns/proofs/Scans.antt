@@ -11,7 +11,7 @@ use lib.IntN.{ℤ, pos}
 use lib.Signed.{lt_z}
 use Rattle.ring.specs.Choices.{pick}
 use Rattle.ring.proofs.Walks.{Tells, tells_none, tells_more}
-use Rattle.columns.specs.Rows.{preceding, lowAt, apartAt, risesTo, fallsTo, weights, Scanned, One}
+use Rattle.columns.specs.Rows.{preceding, low_at, apart_at, rises_to, falls_to, weights, Scanned, One}
 
 -- a test of two that passes
 pub both : (a b : Bool) → (a && b) ≡ true → (a ≡ true) × (b ≡ true)
@@ -76,15 +76,15 @@ only_one p k w j e one f = weights-one p k j (sym e ∙ f) (omega (arith, one.1,
 -- what is known after the first j numbers: of the edges to those vertices, of those vertices, and of the last of them
 pub record Swept (ys : List ℤ) (v : ℤ) (rises falls : ℕ) (apart low : Bool) (mark j : ℕ) : Type 0 where
   pub within : j ≤ length ys
-  pub rising : rises ≡ weights (risesTo ys v) j
-  pub falling : falls ≡ weights (fallsTo ys v) j
-  pub told : Tells apart (apartAt ys v) j
-  pub last : low ≡ lowAt ys v (preceding (length ys) j)
+  pub rising : rises ≡ weights (rises_to ys v) j
+  pub falling : falls ≡ weights (falls_to ys v) j
+  pub told : Tells apart (apart_at ys v) j
+  pub last : low ≡ low_at ys v (preceding (length ys) j)
   pub marked : mark ≡ 65536 + j
 
 pub swept_none : (ys : List ℤ) (v y : ℤ) → y ≡ get_or ys (length ys - 1) (pos 0) → Swept ys v 0 0 true (lt_z y v) 65536 0
 unfolding weights
-swept_none ys v y e = record { within = omega arith; rising = refl; falling = refl; told = tells_none (apartAt ys v); last = ap (λ (z : ℤ). lt_z z v) e; marked = refl }
+swept_none ys v y e = record { within = omega arith; rising = refl; falling = refl; told = tells_none (apart_at ys v); last = ap (λ (z : ℤ). lt_z z v) e; marked = refl }
 
 module _ (ys : List ℤ) (v : ℤ) (rises falls : ℕ) (apart low : Bool) (mark j : ℕ) (before : Swept ys v rises falls apart low mark j) where
   more : (p : ℕ → Bool) (w a : ℕ) (t : Bool) → w ≡ weights p j → t ≡ p j → a ≡ pick t mark 0 → w + a ≡ weights p (j + 1)
@@ -95,20 +95,20 @@ module _ (ys : List ℤ) (v : ℤ) (rises falls : ℕ) (apart low : Bool) (mark 
       → Swept ys v (rises + a) (falls + b) (apart && (lt_z y v || lt_z v y)) (lt_z y v) (mark + 1) (j + 1)
   swept-more y a b e h f g = record {
     within = omega (arith, h);
-    rising = more (risesTo ys v) rises a _ before.rising (λ i. before.last i && not (lt_z (e i) v)) f;
-    falling = more (fallsTo ys v) falls b _ before.falling (λ i. not (before.last i) && lt_z (e i) v) g;
-    told = tells_more apart _ (apartAt ys v) j (λ i. lt_z (e i) v || lt_z v (e i)) before.told;
-    last = ap (λ (z : ℤ). lt_z z v) e ∙ sym (ap (λ (k : ℕ). lowAt ys v (preceding (length ys) k)) (add-one j));
+    rising = more (rises_to ys v) rises a _ before.rising (λ i. before.last i && not (lt_z (e i) v)) f;
+    falling = more (falls_to ys v) falls b _ before.falling (λ i. not (before.last i) && lt_z (e i) v) g;
+    told = tells_more apart _ (apart_at ys v) j (λ i. lt_z (e i) v || lt_z v (e i)) before.told;
+    last = ap (λ (z : ℤ). lt_z z v) e ∙ sym (ap (λ (k : ℕ). low_at ys v (preceding (length ys) k)) (add-one j));
     marked = omega (arith, before.marked);
   }
 
   pub swept-few : length ys ≤ 2048 → (rises ≤ 138_412_032) × (falls ≤ 138_412_032)
   swept-few h = (
-    omega (arith, before.rising, before.within, weights-few (risesTo ys v) j (omega (arith, before.within, h))),
-    omega (arith, before.falling, before.within, weights-few (fallsTo ys v) j (omega (arith, before.within, h))),
+    omega (arith, before.rising, before.within, weights-few (rises_to ys v) j (omega (arith, before.within, h))),
+    omega (arith, before.falling, before.within, weights-few (falls_to ys v) j (omega (arith, before.within, h))),
   )
 
   pub swept_all : length ys ≤ j → Scanned ys v (record { rises = rises; falls = falls; apart = apart })
   swept_all h =
       let all : j ≡ length ys = omega (arith, h, before.within) in
-      record { rises = before.rising ∙ ap (weights (risesTo ys v)) all; falls = before.falling ∙ ap (weights (fallsTo ys v)) all; apart = λ e i l. before.told e i (omega (arith, l, all)) }
+      record { rises = before.rising ∙ ap (weights (rises_to ys v)) all; falls = before.falling ∙ ap (weights (falls_to ys v)) all; apart = λ e i l. before.told e i (omega (arith, l, all)) }

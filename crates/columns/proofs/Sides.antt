@@ -9,7 +9,7 @@ use lib.ListN.{length}
 use lib.Signed.{lt_z}
 use Rattle.ring.specs.declared.Point.{Point}
 use Rattle.ring.specs.Columns.{points}
-use Rattle.ring.specs.Locate.{off, locatedOn}
+use Rattle.ring.specs.Locate.{off, located_on}
 use Rattle.ring.specs.Walk.{Aside, north, south, east, west}
 use Rattle.ring.proofs.Columns.{length-points, point_at}
 use Rattle.ring.proofs.Missed.{missed-ring}
@@ -30,13 +30,13 @@ module _ (xs ys : List ℤ) (R : Point) (ready : Ready xs ys R) where
   abbrev last : ℕ
   last = length xs - 1
 
-  all-aside : Aside (points xs ys) R 0 last → locatedOn (points xs ys) R ≡ off (pos 0) false
+  all-aside : Aside (points xs ys) R 0 last → located_on (points xs ys) R ≡ off (pos 0) false
   all-aside side =
       let long = length-points xs ys ready.clean.even in
       missed-ring (points xs ys) (omega (arith, long, ready.least)) R (subst (λ k. Aside (points xs ys) R 0 k) (ap (λ n. n - 1) (sym long)) side)
 
-  pub row-misses : Beside ys R.y 0 last → locatedOn (points xs ys) R ≡ off (pos 0) false
+  pub row-misses : Beside ys R.y 0 last → located_on (points xs ys) R ≡ off (pos 0) false
   row-misses b = all-aside (by_row xs ys R 0 last ready.clean.even (omega (arith, ready.least)) b)
 
-  pub column-misses : Beside xs R.x 0 last → locatedOn (points xs ys) R ≡ off (pos 0) false
+  pub column-misses : Beside xs R.x 0 last → located_on (points xs ys) R ≡ off (pos 0) false
   column-misses b = all-aside (by-column xs ys R 0 last ready.clean.even (omega (arith, ready.least)) b)

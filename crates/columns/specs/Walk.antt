@@ -2,15 +2,15 @@
 use Rattle.std.specs.Prelude.{ℕ, ◌+◌, ◌≤◌, ◌≡◌, true, false, List, length, get_or, ℤ, pos}
 use Rattle.std.specs.Int.Signed.{lt_z}
 use Rattle.ring.specs.declared.Point.{Point}
-use Rattle.ring.specs.Grid.{someBeyond}
+use Rattle.ring.specs.Grid.{some_beyond}
 use Rattle.ring.specs.Walk.{OnGrid}
 
 -- two columns of points of the grid, and a point of the grid
 pub record Clean (xs ys : List ℤ) (R : Point) : Type 0 where
   pub even : length xs ≡ length ys
   pub most : length xs ≤ 2048
-  pub grid-x : someBeyond xs ≡ false
-  pub grid-y : someBeyond ys ≡ false
+  pub grid-x : some_beyond xs ≡ false
+  pub grid-y : some_beyond ys ≡ false
   pub point : OnGrid R
 
 -- the columns of a ring, and a point of the grid

@@ -2,7 +2,7 @@
 ghost use Rattle.std.specs.Prelude.{◌≡◌, ◌+◌, ◌-◌, ◌<◌, ◌≤◌, true, nat_abs, length};
 ghost use Rattle.ring.specs.Columns.{points};
 ghost use Rattle.ring.specs.Rings.{at};
-ghost use Rattle.ring.specs.Walk.{head_of, mostTurns, Way, Sight, Counts, Aside, none, Counted};
+ghost use Rattle.ring.specs.Walk.{head_of, most_turns, Way, Sight, Counts, Aside, none, Counted};
 ghost use Rattle.columns.specs.Walk.{Clean, Ready, Beside};
 ghost use Rattle.columns.specs.Rows.{preceding};
 
@@ -43,7 +43,7 @@ fn previous(n: usize, j: usize) -> usize
 pub fn edge_to(xs: &[i32], ys: &[i32], r: exact::Arrow, j: usize, c: Count) -> Count
     requires ready { Ready xs.now ys.now (head_of r) }
     requires j_in_bounds { j < length xs.now }
-    requires turns_bound { nat_abs c.turns ≤ mostTurns }
+    requires turns_bound { nat_abs c.turns ≤ most_turns }
     ensures { Counts (points xs.now ys.now) (head_of r) (preceding (length xs.now) j) 1 c result }
 {
     let i = previous(xs.len(), j);
@@ -62,7 +62,7 @@ fn closing(xs: &[i32], ys: &[i32], r: exact::Arrow) -> Count
 fn stretch(xs: &[i32], ys: &[i32], r: exact::Arrow, i: usize, k: usize, c: Count) -> Count
     requires clean { Clean xs.now ys.now (head_of r) }
     requires k_in_bounds { i + k < length xs.now }
-    requires k_bound { nat_abs c.turns + k ≤ mostTurns }
+    requires k_bound { nat_abs c.turns + k ≤ most_turns }
     ensures { Counts (points xs.now ys.now) (head_of r) i k c result }
 {
     let mut count = c;
@@ -111,7 +111,7 @@ fn missed(xs: &[i32], ys: &[i32], r: Point, i: usize, k: usize) -> bool
 fn block(xs: &[i32], ys: &[i32], r: Point, i: usize, k: usize, c: Count) -> Count
     requires clean { Clean xs.now ys.now r }
     requires k_nonzero { (0 < k) × (i + k < length xs.now) }
-    requires k_bound { nat_abs c.turns + k ≤ mostTurns }
+    requires k_bound { nat_abs c.turns + k ≤ most_turns }
     ensures { Counts (points xs.now ys.now) r i k c result }
 {
     let w = ring::wide(r);

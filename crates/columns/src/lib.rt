@@ -9,7 +9,7 @@ mod rows;
 ghost use Rattle.std.specs.Prelude.{◌≡◌, ◌<◌, length};
 ghost use Rattle.ring.specs.Columns.{points};
 ghost use Rattle.ring.specs.Rings.{at};
-ghost use Rattle.ring.specs.Locate.{locatedOn, place_of};
+ghost use Rattle.ring.specs.Locate.{located_on, place_of};
 ghost use Rattle.columns.specs.Walk.{Ready};
 
 pub use passing::missing;
@@ -34,7 +34,7 @@ pub fn vertex(xs: &[i32], ys: &[i32], i: usize) -> Point
 // as they came would be copied at the start of every call, found or not.
 pub fn locate_on(xs: &[i32], ys: &[i32], r: Point) -> Located
     requires { Ready xs.now ys.now r }
-    ensures { place_of result ≡ locatedOn (points xs.now ys.now) r }
+    ensures { place_of result ≡ located_on (points xs.now ys.now) r }
 {
     let c = rows::around(xs, ys, r);
     if c.clear == 0 {

@@ -1,8 +1,8 @@
 // Where a point r is met on a ring in columns: at vertices, or else on edges; of these the lowest index and the highest.
 ghost use Rattle.std.specs.Prelude.{◌≡◌, length};
 ghost use Rattle.ring.specs.Columns.{points};
-ghost use Rattle.ring.specs.Locate.{lowest, highest, atVertex, onEdge};
-ghost use Rattle.ring.specs.Walk.{head_of, span, metAt};
+ghost use Rattle.ring.specs.Locate.{lowest, highest, at_vertex, on_edge};
+ghost use Rattle.ring.specs.Walk.{head_of, span, met_at};
 ghost use Rattle.columns.specs.Walk.{Ready};
 
 use crate::counting::way;
@@ -12,7 +12,7 @@ use ring::{Met, Point, Span};
 // All edges that hold r.
 fn edges(xs: &[i32], ys: &[i32], r: exact::Arrow) -> Span
     requires { Ready xs.now ys.now (head_of r) }
-    ensures { result ≡ span (onEdge (points xs.now ys.now) (head_of r)) (length xs.now) }
+    ensures { result ≡ span (on_edge (points xs.now ys.now) (head_of r)) (length xs.now) }
 {
     let n = xs.len();
     let mut met = Span {
@@ -32,7 +32,7 @@ fn edges(xs: &[i32], ys: &[i32], r: exact::Arrow) -> Span
 
 fn lowest_vertex(xs: &[i32], ys: &[i32], r: Point) -> usize
     requires { Ready xs.now ys.now r }
-    ensures { result ≡ lowest (atVertex (points xs.now ys.now) r) (length xs.now) 0 }
+    ensures { result ≡ lowest (at_vertex (points xs.now ys.now) r) (length xs.now) 0 }
 {
     let n = xs.len();
     let mut v = 0;
@@ -47,7 +47,7 @@ fn lowest_vertex(xs: &[i32], ys: &[i32], r: Point) -> usize
 
 fn highest_vertex(xs: &[i32], ys: &[i32], r: Point) -> usize
     requires { Ready xs.now ys.now r }
-    ensures { result ≡ highest (atVertex (points xs.now ys.now) r) (length xs.now) }
+    ensures { result ≡ highest (at_vertex (points xs.now ys.now) r) (length xs.now) }
 {
     let mut left = xs.len();
     while 0 < left {
@@ -63,7 +63,7 @@ fn highest_vertex(xs: &[i32], ys: &[i32], r: Point) -> usize
 // Where r is met. Vertices are looked for from both ends, which is quick; edges in one walk.
 pub fn find(xs: &[i32], ys: &[i32], r: exact::Arrow) -> Met
     requires { Ready xs.now ys.now (head_of r) }
-    ensures { result ≡ metAt (points xs.now ys.now) (head_of r) (length xs.now) }
+    ensures { result ≡ met_at (points xs.now ys.now) (head_of r) (length xs.now) }
 {
     let p = ring::narrow(r);
     let lowest = lowest_vertex(xs, ys, p);

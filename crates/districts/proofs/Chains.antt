@@ -10,8 +10,8 @@ use lib.Dec.{eqb}
 use lib.ListN.{get_or}
 use borrow.Author.Tests.{lt-ltb, le-ltb, ltb-true, eq-eqb, eqb-true}
 use Rattle.ring.proofs.Pick.{pick_true, pick-false}
-use Rattle.districts.specs.Counts.{allTo, sum_to}
-use Rattle.districts.specs.Lists.{firstPlace, size}
+use Rattle.districts.specs.Counts.{all_to, sum_to}
+use Rattle.districts.specs.Lists.{first_place, size}
 use Rattle.districts.specs.Places.{Starts, Marked, met, joined}
 use Rattle.districts.specs.WellFormed.{total, packed}
 use Rattle.districts.proofs.Tests.{refuted, both_left, both_right, either, passes-left, passes-right}
@@ -150,28 +150,28 @@ module _ (runs starts : List ℕ) (few : total runs ≤ 2048) (marked : Marked r
   meets place = met starts (total runs) place
 
   -- a place where a run starts or all end
-  meets-start : (place d : ℕ) → place < total runs → Starts (firstPlace runs) (size runs) 64 place d → meets place ≡ true
+  meets-start : (place d : ℕ) → place < total runs → Starts (first_place runs) (size runs) 64 place d → meets place ≡ true
   meets-start place d h s = pick_true (lt-ltb place (total runs) h) _ _ ∙ lt-ltb 0 (get_or starts place 0) (marked.none-missed place d (omega arith) s)
 
   meets-end : (place : ℕ) → place ≡ total runs → meets place ≡ true
   meets-end place e = pick-false (le-ltb place (total runs) (omega arith)) _ _ ∙ eq-eqb place (total runs) e
 
-  packed-met : packed runs ≡ true → (meets 0 && allTo 64 (joined runs starts (total runs))) ≡ true
+  packed-met : packed runs ≡ true → (meets 0 && all_to 64 (joined runs starts (total runs))) ≡ true
   packed-met p = λ i. first i && all_pass (joined runs starts (total runs)) 64 each i
     where
-      tiles : Tiles (firstPlace runs) (size runs) (total runs)
+      tiles : Tiles (first_place runs) (size runs) (total runs)
       tiles = packed-tiles runs p
 
       first : meets 0 ≡ true
       first = elim (dec_lt 0 (total runs)) [
-        | yes some ↦ let (d, s) = first-begins (firstPlace runs) (size runs) (total runs) refl tiles some in meets-start 0 d some s
+        | yes some ↦ let (d, s) = first-begins (first_place runs) (size runs) (total runs) refl tiles some in meets-start 0 d some s
         | no none ↦ meets-end 0 (omega arith)
       ]
 
-      ends : (d : ℕ) → d < 64 → 0 < size runs d → meets (firstPlace runs d + size runs d) ≡ true
-      ends d h u = elim (dec_lt (firstPlace runs d + size runs d) (total runs)) [
-        | yes less ↦ let (e, s) = next-begins (firstPlace runs) (size runs) (total runs) refl tiles d h u less in meets-start (firstPlace runs d + size runs d) e less s
-        | no more ↦ meets-end (firstPlace runs d + size runs d) (let w = tiles.within d h u in omega arith)
+      ends : (d : ℕ) → d < 64 → 0 < size runs d → meets (first_place runs d + size runs d) ≡ true
+      ends d h u = elim (dec_lt (first_place runs d + size runs d) (total runs)) [
+        | yes less ↦ let (e, s) = next-begins (first_place runs) (size runs) (total runs) refl tiles d h u less in meets-start (first_place runs d + size runs d) e less s
+        | no more ↦ meets-end (first_place runs d + size runs d) (let w = tiles.within d h u in omega arith)
       ]
 
       each : (d : ℕ) → d < 64 → joined runs starts (total runs) d ≡ true
@@ -183,7 +183,7 @@ module _ (runs starts : List ℕ) (few : total runs ≤ 2048) (marked : Marked r
   module _ (each : (d : ℕ) → d < 64 → joined runs starts (total runs) d ≡ true) where
     -- a place that one comes to, where a run starts or all end
     record Stands (place : ℕ) : Type 0 where
-      come : Chain (firstPlace runs) (size runs) place
+      come : Chain (first_place runs) (size runs) place
       here : meets place ≡ true
 
     -- over the run that starts there
@@ -191,9 +191,9 @@ module _ (runs starts : List ℕ) (few : total runs ≤ 2048) (marked : Marked r
     next place less at =
         let some : 0 < get_or starts place 0 = ltb-true 0 (get_or starts place 0) (sym (pick_true (lt-ltb place (total runs) less) _ _) ∙ at.here) in
         let d = get_or starts place 0 - 1 in
-        let s : Starts (firstPlace runs) (size runs) 64 place d = marked.right place d (omega arith) in
+        let s : Starts (first_place runs) (size runs) 64 place d = marked.right place d (omega arith) in
         let used = s.used in
-        let ended : meets (firstPlace runs d + size runs d) ≡ true = elim (either (eqb (size runs d) 0) (meets (firstPlace runs d + size runs d)) (each d s.below)) [
+        let ended : meets (first_place runs d + size runs d) ≡ true = elim (either (eqb (size runs d) 0) (meets (first_place runs d + size runs d)) (each d s.below)) [
           | inl z ↦ absurd (let none = eqb-true (size runs d) 0 z in let g : ⊥ = omega arith in g)
           | inr e ↦ e
         ] in
@@ -201,19 +201,19 @@ module _ (runs starts : List ℕ) (few : total runs ≤ 2048) (marked : Marked r
 
     -- to the end; k is more than what is left
     walked : (k place : ℕ) → Stands place → total runs < place + k → packed runs ≡ true
-    walked zero place at h = let w = chain-within (firstPlace runs) (size runs) (total runs) refl place at.come in absurd (let g : ⊥ = omega arith in g)
+    walked zero place at h = let w = chain-within (first_place runs) (size runs) (total runs) refl place at.come in absurd (let g : ⊥ = omega arith in g)
     walked (suc k) place at h = elim (dec_lt place (total runs)) [
-      | no end ↦ tiles-packed runs (chain-tiles (firstPlace runs) (size runs) (total runs) refl place at.come (omega arith))
+      | no end ↦ tiles-packed runs (chain-tiles (first_place runs) (size runs) (total runs) refl place at.come (omega arith))
       | yes less ↦ let (to, far, there) = next place less at in walked k to there (omega arith)
     ]
 
-  met-packed : (meets 0 && allTo 64 (joined runs starts (total runs))) ≡ packed runs
-  met-packed = go (meets 0 && allTo 64 (joined runs starts (total runs))) refl
+  met-packed : (meets 0 && all_to 64 (joined runs starts (total runs))) ≡ packed runs
+  met-packed = go (meets 0 && all_to 64 (joined runs starts (total runs))) refl
     where
-      go : (b : Bool) → (meets 0 && allTo 64 (joined runs starts (total runs))) ≡ b → b ≡ packed runs
+      go : (b : Bool) → (meets 0 && all_to 64 (joined runs starts (total runs))) ≡ b → b ≡ packed runs
       go true e = sym (walked (all-each _ 64 (both_right (meets 0) _ e)) (suc (total runs)) 0 (record { come = origin; here = both_left (meets 0) _ e }) (omega arith))
       go false e = sym (refuted (packed runs) (λ p. true≢false (sym (packed-met p) ∙ e)))
 
   -- the two tests, of a number that is what all have together
-  pub both-packed : (all : ℕ) (first each : Bool) → all ≡ total runs → first ≡ met starts all 0 → each ≡ allTo 64 (joined runs starts all) → (first && each) ≡ packed runs
-  both-packed all first each is e f = (λ i. e i && f i) ∙ ap (λ t. met starts t 0 && allTo 64 (joined runs starts t)) is ∙ met-packed
+  pub both-packed : (all : ℕ) (first each : Bool) → all ≡ total runs → first ≡ met starts all 0 → each ≡ all_to 64 (joined runs starts all) → (first && each) ≡ packed runs
+  both-packed all first each is e f = (λ i. e i && f i) ∙ ap (λ t. met starts t 0 && all_to 64 (joined runs starts t)) is ∙ met-packed

@@ -6,31 +6,31 @@ use native.Mathlib.Omega.{arith}
 use mathlib.Core.Path.{◌≡◌, refl, sym, ap, subst, ◌∙◌}
 use mathlib.Core.Bool.{Bool, true, false, ◌&&◌}
 use Rattle.districts.proofs.Tests.{both_left, both_right}
-use Rattle.districts.specs.Counts.{allTo, sum_to}
+use Rattle.districts.specs.Counts.{all_to, sum_to}
 
-pub all_none : (p : ℕ → Bool) → true ≡ allTo 0 p
-unfolding allTo
+pub all_none : (p : ℕ → Bool) → true ≡ all_to 0 p
+unfolding all_to
 all_none p = refl
 
-pub all_more : (p : ℕ → Bool) (n : ℕ) (good b : Bool) → good ≡ allTo n p → b ≡ p n → (good && b) ≡ allTo (n + 1) p
-unfolding allTo
-all_more p n good b e f = (λ i. e i && f i) ∙ ap (λ k. allTo k p) (sym (add-one n))
+pub all_more : (p : ℕ → Bool) (n : ℕ) (good b : Bool) → good ≡ all_to n p → b ≡ p n → (good && b) ≡ all_to (n + 1) p
+unfolding all_to
+all_more p n good b e f = (λ i. e i && f i) ∙ ap (λ k. all_to k p) (sym (add-one n))
 
 -- d has come to the bound
-pub all_end : (p : ℕ → Bool) (n d : ℕ) (good : Bool) → good ≡ allTo d p → d ≤ n → n ≤ d → good ≡ allTo n p
-all_end p n d good e h k = let same : d ≡ n = omega arith in subst (λ (m : ℕ). good ≡ allTo m p) same e
+pub all_end : (p : ℕ → Bool) (n d : ℕ) (good : Bool) → good ≡ all_to d p → d ≤ n → n ≤ d → good ≡ all_to n p
+all_end p n d good e h k = let same : d ≡ n = omega arith in subst (λ (m : ℕ). good ≡ all_to m p) same e
 
 -- a test that passes everywhere
-pub all_pass : (p : ℕ → Bool) (n : ℕ) → ((k : ℕ) → k < n → p k ≡ true) → allTo n p ≡ true
-unfolding allTo
+pub all_pass : (p : ℕ → Bool) (n : ℕ) → ((k : ℕ) → k < n → p k ≡ true) → all_to n p ≡ true
+unfolding all_to
 all_pass p zero f = refl
 all_pass p (suc n) f = (λ i. all_pass p n (λ k h. f k (omega arith)) i && f n (omega arith) i)
 
 -- what a test of all tells of each
-pub all-each : (p : ℕ → Bool) (n : ℕ) → allTo n p ≡ true → (k : ℕ) → k < n → p k ≡ true
-unfolding allTo
+pub all-each : (p : ℕ → Bool) (n : ℕ) → all_to n p ≡ true → (k : ℕ) → k < n → p k ≡ true
+unfolding all_to
 all-each p zero e k h = absurd (let f : ⊥ = omega arith in f)
-all-each p (suc n) e k h = elim (ℕ_discrete k n) [ yes same ↦ ap p same ∙ both_right (allTo n p) (p n) e | no other ↦ all-each p n (both_left (allTo n p) (p n) e) k (omega arith) ]
+all-each p (suc n) e k h = elim (ℕ_discrete k n) [ yes same ↦ ap p same ∙ both_right (all_to n p) (p n) e | no other ↦ all-each p n (both_left (all_to n p) (p n) e) k (omega arith) ]
 
 pub sum-none : (f : ℕ → ℕ) → 0 ≡ sum_to 0 f
 unfolding sum_to
@@ -86,12 +86,12 @@ pub rest-none : (f : ℕ → ℕ) (n d s : ℕ) → s ≡ sum_to d f → sum_to 
 rest-none f n d s e h k l m = let past : sum_to d f + f k ≤ sum_to n f = term-past f n d k l m in omega arith
 
 -- and a test that passes at them passes at all if it did before
-pub all_rest : (p : ℕ → Bool) (n d : ℕ) → d ≤ n → ((k : ℕ) → d ≤ k → k < n → p k ≡ true) → allTo d p ≡ allTo n p
-unfolding allTo
-all_rest p zero d h rest = ap (λ m. allTo m p) (let e : d ≡ 0 = omega arith in e)
+pub all_rest : (p : ℕ → Bool) (n d : ℕ) → d ≤ n → ((k : ℕ) → d ≤ k → k < n → p k ≡ true) → all_to d p ≡ all_to n p
+unfolding all_to
+all_rest p zero d h rest = ap (λ m. all_to m p) (let e : d ≡ 0 = omega arith in e)
 all_rest p (suc n) d h rest = elim (ℕ_discrete d (suc n)) [
-  | yes same ↦ ap (λ m. allTo m p) same
-  | no other ↦ all_rest p n d (omega arith) (λ k l m. rest k l (omega arith)) ∙ sym ((λ i. allTo n p && rest n (omega arith) (omega arith) i) ∙ kept (allTo n p))
+  | yes same ↦ ap (λ m. all_to m p) same
+  | no other ↦ all_rest p n d (omega arith) (λ k l m. rest k l (omega arith)) ∙ sym ((λ i. all_to n p && rest n (omega arith) (omega arith) i) ∙ kept (all_to n p))
 ]
   where
     kept : (b : Bool) → (b && true) ≡ b

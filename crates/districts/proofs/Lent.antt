@@ -12,8 +12,8 @@ use Rattle.ring.specs.declared.Point.{Point}
 use Rattle.ring.specs.Choices.{pick}
 use Rattle.ring.specs.Columns.{points}
 use Rattle.ring.proofs.Columns.{points-take, points-drop}
-use Rattle.districts.specs.Register.{unused, ring, inUse}
-use Rattle.districts.specs.Lists.{outlineSize, firstPlace, size, part, held, meaning}
+use Rattle.districts.specs.Register.{unused, ring, in_use}
+use Rattle.districts.specs.Lists.{outline_size, first_place, size, part, held, meaning}
 use Rattle.districts.specs.WellFormed.{total, counted}
 use Rattle.districts.proofs.Sound.{allowed-size, size-most, district-sized, total-most, right-counts, store-lengths, runs-length, run_inside, store-on-grid}
 use Rattle.districts.proofs.Meaning.{part-on-grid}
@@ -34,11 +34,11 @@ module _ (l : Lists) (good : formed l ≡ true) where
     fits = fits;
     least = least;
     most = λ d h. size-most (size runs d) (district-sized runs counts d h);
-    grid-x = λ d h k. part-on-grid l.sx (firstPlace runs d) (size runs d) (total runs) (run_inside l good d h k) (store-on-grid l good).0;
-    grid-y = λ d h k. part-on-grid l.sy (firstPlace runs d) (size runs d) (total runs) (run_inside l good d h k) (store-on-grid l good).1;
+    grid-x = λ d h k. part-on-grid l.sx (first_place runs d) (size runs d) (total runs) (run_inside l good d h k) (store-on-grid l good).0;
+    grid-y = λ d h k. part-on-grid l.sy (first_place runs d) (size runs d) (total runs) (run_inside l good d h k) (store-on-grid l good).1;
   }
     where
-      fits : (d : ℕ) → d < 64 → 0 < size runs d → firstPlace runs d + size runs d ≤ 2048
+      fits : (d : ℕ) → d < 64 → 0 < size runs d → first_place runs d + size runs d ≤ 2048
       fits d h k = omega (arith, run_inside l good d h k, total-most runs counts)
 
       least : (d : ℕ) → d < 64 → 0 < size runs d → 3 ≤ size runs d
@@ -49,20 +49,20 @@ module _ (l : Lists) (good : formed l ≡ true) where
           say (inr e) = e.0
 
 -- a ring is held exactly if it has vertices
-pub held-in-use : (P : List Point) (place n : ℕ) → inUse (held P place n) ≡ not (eqb n 0)
+pub held-in-use : (P : List Point) (place n : ℕ) → in_use (held P place n) ≡ not (eqb n 0)
 held-in-use P place n = say (eqb n 0)
   where
-    say : (b : Bool) → inUse (pick b unused (ring (part P place n))) ≡ not b
+    say : (b : Bool) → in_use (pick b unused (ring (part P place n))) ≡ not b
     say true = refl
     say false = refl
 
-pub outline-in-use : (outline store : List Point) (runs : List ℕ) → inUse (meaning outline store runs).outline ≡ not (eqb (outlineSize runs) 0)
+pub outline-in-use : (outline store : List Point) (runs : List ℕ) → in_use (meaning outline store runs).outline ≡ not (eqb (outline_size runs) 0)
 unfolding meaning
-outline-in-use outline store runs = held-in-use outline 0 (outlineSize runs)
+outline-in-use outline store runs = held-in-use outline 0 (outline_size runs)
 
 -- refusal 2 is told by the outline's size
-pub no-outline : (outline store : List Point) (runs : List ℕ) → not (inUse (meaning outline store runs).outline) ≡ eqb (outlineSize runs) 0
-no-outline outline store runs = ap not (outline-in-use outline store runs) ∙ twice (eqb (outlineSize runs) 0)
+pub no-outline : (outline store : List Point) (runs : List ℕ) → not (in_use (meaning outline store runs).outline) ≡ eqb (outline_size runs) 0
+no-outline outline store runs = ap not (outline-in-use outline store runs) ∙ twice (eqb (outline_size runs) 0)
   where
     twice : (b : Bool) → not (not b) ≡ b
     twice true = refl

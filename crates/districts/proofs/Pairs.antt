@@ -10,14 +10,14 @@ use lib.IntN.{ℤ}
 use lib.ListN.{length, take, drop}
 use borrow.Author.Tests.{eq-eqb, ne_eqb}
 use Rattle.ring.specs.Choices.{pick}
-use Rattle.ring.specs.Grid.{someBeyond, vertices}
+use Rattle.ring.specs.Grid.{some_beyond, vertices}
 use Rattle.ring.specs.Columns.{points, interleaved, Alike}
 use Rattle.ring.proofs.Columns.{points-are, interleaved-length, interleaved-take, interleaved-drop, interleaved-beyond, same-take}
-use Rattle.districts.specs.Counts.{listTo}
+use Rattle.districts.specs.Counts.{list_to}
 use Rattle.districts.specs.Register.{unused, ring, Register, numbers}
 use Rattle.refusals.specs.Verdicts.{Verdict, accept, refuse}
-use Rattle.districts.specs.Lists.{outlineSize, firstPlace, size, part, held, meaning}
-use Rattle.districts.specs.WellFormed.{shaped, total, counted, packed, within, wellFormed}
+use Rattle.districts.specs.Lists.{outline_size, first_place, size, part, held, meaning}
+use Rattle.districts.specs.WellFormed.{shaped, total, counted, packed, within, well_formed}
 use Rattle.districts.specs.Lent.{Lists, formed, means, Leaves}
 use Rattle.districts.specs.Pairs as Pairs
 use Rattle.districts.proofs.Lent.{points-part}
@@ -34,8 +34,8 @@ held-alike zs xs ys a place n =
 meaning-alike : (o ox oy s sx sy : List ℤ) (runs : List ℕ) → Alike o ox oy → Alike s sx sy → meaning (points ox oy) (points sx sy) runs ≡ Pairs.meaning o s runs
 unfolding meaning Pairs.meaning
 meaning-alike o ox oy s sx sy runs a b i = record {
-  outline = held-alike o ox oy a 0 (outlineSize runs) i;
-  districts = listTo numbers (λ d. held-alike s sx sy b (firstPlace runs d) (size runs d) i);
+  outline = held-alike o ox oy a 0 (outline_size runs) i;
+  districts = list_to numbers (λ d. held-alike s sx sy b (first_place runs d) (size runs d) i);
 }
 
 -- ---- well-formed
@@ -56,18 +56,18 @@ neither : (a b : Bool) → (not a && not b) ≡ not (a || b)
 neither true b = refl
 neither false b = refl
 
-within-alike : (zs xs ys : List ℤ) → Alike zs xs ys → (n : ℕ) → within xs ys n ≡ not (someBeyond (Pairs.part zs 0 n))
+within-alike : (zs xs ys : List ℤ) → Alike zs xs ys → (n : ℕ) → within xs ys n ≡ not (some_beyond (Pairs.part zs 0 n))
 within-alike zs xs ys a n =
-    neither (someBeyond (part xs 0 n)) (someBeyond (part ys 0 n))
+    neither (some_beyond (part xs 0 n)) (some_beyond (part ys 0 n))
     ∙ ap not (sym (interleaved-beyond (part xs 0 n) (part ys 0 n) (same-take n xs ys a.even)))
-    ∙ ap (λ ws. not (someBeyond ws)) (sym (part-alike xs ys 0 n))
-    ∙ ap (λ ws. not (someBeyond (Pairs.part ws 0 n))) (sym a.numbers)
+    ∙ ap (λ ws. not (some_beyond ws)) (sym (part-alike xs ys 0 n))
+    ∙ ap (λ ws. not (some_beyond (Pairs.part ws 0 n))) (sym a.numbers)
 
-formed-alike : (o ox oy s sx sy : List ℤ) (runs : List ℕ) → Alike o ox oy → Alike s sx sy → wellFormed ox oy sx sy runs ≡ Pairs.wellFormed o s runs
-unfolding wellFormed Pairs.wellFormed
+formed-alike : (o ox oy s sx sy : List ℤ) (runs : List ℕ) → Alike o ox oy → Alike s sx sy → well_formed ox oy sx sy runs ≡ Pairs.well_formed o s runs
+unfolding well_formed Pairs.well_formed
 formed-alike o ox oy s sx sy runs a b i =
     shaped-alike o ox oy s sx sy runs a b i
-    && (counted runs && (packed runs && (within-alike o ox oy a (outlineSize runs) i && within-alike s sx sy b (total runs) i)))
+    && (counted runs && (packed runs && (within-alike o ox oy a (outline_size runs) i && within-alike s sx sy b (total runs) i)))
 
 -- ---- registers held either way
 
@@ -76,7 +76,7 @@ pub same-meaning : (l : Lists) (p : Pairs.Lists) → Pairs.Alike l p → means l
 same-meaning l p a = meaning-alike _ _ _ _ _ _ l.runs a.outline a.store ∙ ap (Pairs.meaning p.outline p.store) a.runs
 
 pub same-formed : (l : Lists) (p : Pairs.Lists) → Pairs.Alike l p → formed l ≡ Pairs.formed p
-same-formed l p a = formed-alike _ _ _ _ _ _ l.runs a.outline a.store ∙ ap (Pairs.wellFormed p.outline p.store) a.runs
+same-formed l p a = formed-alike _ _ _ _ _ _ l.runs a.outline a.store ∙ ap (Pairs.well_formed p.outline p.store) a.runs
 
 -- a call that is judged alike and makes the same register ends alike
 pub ends-alike : (v : Verdict) (g : Register) (l l' : Lists) (p p' : Pairs.Lists) → Pairs.Alike l p → Leaves v g l l' → Pairs.Leaves v g p p' → (means l' ≡ Pairs.means p') × (formed l' ≡ Pairs.formed p')

@@ -9,10 +9,10 @@ use lib.Dec.{eqb, leb}
 use lib.IntN.{ℤ}
 use lib.ListN.{length}
 use borrow.Author.Tests.{eqb-true, leb-true, not-true}
-use Rattle.ring.specs.Grid.{someBeyond}
-use Rattle.districts.specs.Counts.{allTo}
-use Rattle.districts.specs.Lists.{outlineSize, firstPlace, size, part}
-use Rattle.districts.specs.WellFormed.{shaped, sized, total, packed, counted, within, onGrid, wellFormed}
+use Rattle.ring.specs.Grid.{some_beyond}
+use Rattle.districts.specs.Counts.{all_to}
+use Rattle.districts.specs.Lists.{outline_size, first_place, size, part}
+use Rattle.districts.specs.WellFormed.{shaped, sized, total, packed, counted, within, on_grid, well_formed}
 use Rattle.districts.specs.Lent.{Lists, formed}
 use Rattle.districts.proofs.Tests.{both_left, both_right, either}
 use Rattle.districts.proofs.Counting.{all-each}
@@ -45,29 +45,29 @@ shape-told ox oy sx sy runs e =
       eqb-true (length runs) 129 (both_right (eqb (length sx) 2048 && eqb (length sy) 2048) _ rest),
     )
 
-within-told : (xs ys : List ℤ) (n : ℕ) → within xs ys n ≡ true → (someBeyond (part xs 0 n) ≡ false) × (someBeyond (part ys 0 n) ≡ false)
-within-told xs ys n e = (not-true _ (both_left (not (someBeyond (part xs 0 n))) _ e), not-true _ (both_right (not (someBeyond (part xs 0 n))) _ e))
+within-told : (xs ys : List ℤ) (n : ℕ) → within xs ys n ≡ true → (some_beyond (part xs 0 n) ≡ false) × (some_beyond (part ys 0 n) ≡ false)
+within-told xs ys n e = (not-true _ (both_left (not (some_beyond (part xs 0 n))) _ e), not-true _ (both_right (not (some_beyond (part xs 0 n))) _ e))
 
 -- the counts
 module _ (runs : List ℕ) (e : counted runs ≡ true) where
-  pub outline-sized : sized (outlineSize runs) ≡ true
-  outline-sized = both_left (sized (outlineSize runs)) _ (both_left (sized (outlineSize runs) && allTo 64 (λ d. sized (size runs d))) _ e)
+  pub outline-sized : sized (outline_size runs) ≡ true
+  outline-sized = both_left (sized (outline_size runs)) _ (both_left (sized (outline_size runs) && all_to 64 (λ d. sized (size runs d))) _ e)
 
   pub district-sized : (d : ℕ) → d < 64 → sized (size runs d) ≡ true
-  district-sized = all-each (λ d. sized (size runs d)) 64 (both_right (sized (outlineSize runs)) _ (both_left (sized (outlineSize runs) && allTo 64 (λ d. sized (size runs d))) _ e))
+  district-sized = all-each (λ d. sized (size runs d)) 64 (both_right (sized (outline_size runs)) _ (both_left (sized (outline_size runs) && all_to 64 (λ d. sized (size runs d))) _ e))
 
-  limits : (leb (total runs) 2048 && (leb 1 (outlineSize runs) || eqb (total runs) 0)) ≡ true
-  limits = both_right (sized (outlineSize runs) && allTo 64 (λ d. sized (size runs d))) _ e
+  limits : (leb (total runs) 2048 && (leb 1 (outline_size runs) || eqb (total runs) 0)) ≡ true
+  limits = both_right (sized (outline_size runs) && all_to 64 (λ d. sized (size runs d))) _ e
 
   pub total-most : total runs ≤ 2048
   total-most = leb-true (total runs) 2048 (both_left (leb (total runs) 2048) _ limits)
 
   -- without an outline there is no district
-  pub none-without : outlineSize runs ≡ 0 → total runs ≡ 0
-  none-without f = say (either (leb 1 (outlineSize runs)) (eqb (total runs) 0) (both_right (leb (total runs) 2048) _ limits))
+  pub none-without : outline_size runs ≡ 0 → total runs ≡ 0
+  none-without f = say (either (leb 1 (outline_size runs)) (eqb (total runs) 0) (both_right (leb (total runs) 2048) _ limits))
     where
-      say : (leb 1 (outlineSize runs) ≡ true) ⊎ (eqb (total runs) 0 ≡ true) → total runs ≡ 0
-      say (inl g) = absurd (let h : 1 ≤ outlineSize runs = leb-true 1 (outlineSize runs) g in omega arith)
+      say : (leb 1 (outline_size runs) ≡ true) ⊎ (eqb (total runs) 0 ≡ true) → total runs ≡ 0
+      say (inl g) = absurd (let h : 1 ≤ outline_size runs = leb-true 1 (outline_size runs) g in omega arith)
       say (inr g) = eqb-true (total runs) 0 g
 
 -- the whole
@@ -76,11 +76,11 @@ module _ (l : Lists) (e : formed l ≡ true) where
   runs = l.runs
 
   right-shape : shaped l.ox l.oy l.sx l.sy runs ≡ true
-  unfolding wellFormed
+  unfolding well_formed
   right-shape = both_left (shaped l.ox l.oy l.sx l.sy runs) _ e
 
-  rest : (counted runs && (packed runs && onGrid l.ox l.oy l.sx l.sy runs)) ≡ true
-  unfolding wellFormed
+  rest : (counted runs && (packed runs && on_grid l.ox l.oy l.sx l.sy runs)) ≡ true
+  unfolding well_formed
   rest = both_right (shaped l.ox l.oy l.sx l.sy runs) _ e
 
   pub outline-lengths : (length l.ox ≡ 2048) × (length l.oy ≡ 2048)
@@ -99,14 +99,14 @@ module _ (l : Lists) (e : formed l ≡ true) where
   right-packing = both_left (packed runs) _ (both_right (counted runs) _ rest)
 
   -- a district's run ends within the used part of the store
-  pub run_inside : (d : ℕ) → d < 64 → 0 < size runs d → firstPlace runs d + size runs d ≤ total runs
+  pub run_inside : (d : ℕ) → d < 64 → 0 < size runs d → first_place runs d + size runs d ≤ total runs
   run_inside = (packed-tiles runs right-packing).within
 
-  grid : (within l.ox l.oy (outlineSize runs) && within l.sx l.sy (total runs)) ≡ true
+  grid : (within l.ox l.oy (outline_size runs) && within l.sx l.sy (total runs)) ≡ true
   grid = both_right (packed runs) _ (both_right (counted runs) _ rest)
 
-  pub outline-on-grid : (someBeyond (part l.ox 0 (outlineSize runs)) ≡ false) × (someBeyond (part l.oy 0 (outlineSize runs)) ≡ false)
-  outline-on-grid = within-told l.ox l.oy (outlineSize runs) (both_left (within l.ox l.oy (outlineSize runs)) _ grid)
+  pub outline-on-grid : (some_beyond (part l.ox 0 (outline_size runs)) ≡ false) × (some_beyond (part l.oy 0 (outline_size runs)) ≡ false)
+  outline-on-grid = within-told l.ox l.oy (outline_size runs) (both_left (within l.ox l.oy (outline_size runs)) _ grid)
 
-  pub store-on-grid : (someBeyond (part l.sx 0 (total runs)) ≡ false) × (someBeyond (part l.sy 0 (total runs)) ≡ false)
-  store-on-grid = within-told l.sx l.sy (total runs) (both_right (within l.ox l.oy (outlineSize runs)) _ grid)
+  pub store-on-grid : (some_beyond (part l.sx 0 (total runs)) ≡ false) × (some_beyond (part l.sy 0 (total runs)) ≡ false)
+  store-on-grid = within-told l.sx l.sy (total runs) (both_right (within l.ox l.oy (outline_size runs)) _ grid)

@@ -10,8 +10,8 @@ use mathlib.Core.Logic.{◌⊎◌, inl, inr}
 use lib.Dec.{eqb, leb, ltb}
 use borrow.Author.Tests.{eqb-true, leb-true, le-leb, lt-leb, lt-ltb, le-ltb, eq-eqb}
 use Rattle.ring.specs.Choices.{count}
-use Rattle.districts.specs.Counts.{allTo, sum_to}
-use Rattle.districts.specs.Lists.{firstPlace, size}
+use Rattle.districts.specs.Counts.{all_to, sum_to}
+use Rattle.districts.specs.Lists.{first_place, size}
 use Rattle.districts.specs.Places.{covers}
 use Rattle.districts.specs.WellFormed.{total, inside, apart, packed}
 use Rattle.districts.proofs.Tests.{both_left, both_right, either, passes-left, passes-right}
@@ -121,40 +121,40 @@ module _ (f n : ℕ → ℕ) where
 
 module _ (runs : List ℕ) where
   abbrev end : ℕ → ℕ
-  end d = firstPlace runs d + size runs d
+  end d = first_place runs d + size runs d
 
-  apart-either : (d e : ℕ) → apart runs d e ≡ true → 0 < size runs d → 0 < size runs e → (end d ≤ firstPlace runs e) ⊎ (end e ≤ firstPlace runs d)
+  apart-either : (d e : ℕ) → apart runs d e ≡ true → 0 < size runs d → 0 < size runs e → (end d ≤ first_place runs e) ⊎ (end e ≤ first_place runs d)
   apart-either d e p u v = elim (either (eqb (size runs d) 0 || eqb (size runs e) 0) _ p) [
     | inl unused ↦ elim (either (eqb (size runs d) 0) _ unused) [
       | inl z ↦ absurd (let none = eqb-true (size runs d) 0 z in omega arith)
       | inr z ↦ absurd (let none = eqb-true (size runs e) 0 z in omega arith)
     ]
-    | inr order ↦ elim (either (leb (end d) (firstPlace runs e)) _ order) [
-      | inl l ↦ inl (leb-true (end d) (firstPlace runs e) l)
-      | inr l ↦ inr (leb-true (end e) (firstPlace runs d) l)
+    | inr order ↦ elim (either (leb (end d) (first_place runs e)) _ order) [
+      | inl l ↦ inl (leb-true (end d) (first_place runs e) l)
+      | inr l ↦ inr (leb-true (end e) (first_place runs d) l)
     ]
   ]
 
-  pub packed-tiles : packed runs ≡ true → Tiles (firstPlace runs) (size runs) (total runs)
+  pub packed-tiles : packed runs ≡ true → Tiles (first_place runs) (size runs) (total runs)
   packed-tiles p = record { within = within; disjoint = disjoint }
     where
       within : (d : ℕ) → d < 64 → 0 < size runs d → end d ≤ total runs
-      within d h u = elim (either (eqb (size runs d) 0) _ (all-each (inside runs (total runs)) 64 (both_left (allTo 64 (inside runs (total runs))) _ p) d h)) [
+      within d h u = elim (either (eqb (size runs d) 0) _ (all-each (inside runs (total runs)) 64 (both_left (all_to 64 (inside runs (total runs))) _ p) d h)) [
         | inl z ↦ absurd (let none = eqb-true (size runs d) 0 z in omega arith)
         | inr l ↦ leb-true (end d) (total runs) l
       ]
 
       lower : (d e : ℕ) → d < 64 → e < d → apart runs d e ≡ true
-      lower d e h l = all-each (λ e. apart runs d e) d (all-each (λ d. allTo d (λ e. apart runs d e)) 64 (both_right (allTo 64 (inside runs (total runs))) _ p) d h) e l
+      lower d e h l = all-each (λ e. apart runs d e) d (all-each (λ d. all_to d (λ e. apart runs d e)) 64 (both_right (all_to 64 (inside runs (total runs))) _ p) d h) e l
 
-      disjoint : (d e : ℕ) → d < 64 → e < 64 → (d ≡ e → ⊥) → 0 < size runs d → 0 < size runs e → (end d ≤ firstPlace runs e) ⊎ (end e ≤ firstPlace runs d)
+      disjoint : (d e : ℕ) → d < 64 → e < 64 → (d ≡ e → ⊥) → 0 < size runs d → 0 < size runs e → (end d ≤ first_place runs e) ⊎ (end e ≤ first_place runs d)
       disjoint d e h k other u v = elim (dec_lt e d) [
         | yes l ↦ apart-either d e (lower d e h l) u v
         | no l ↦ elim (apart-either e d (lower e d k (omega arith)) v u) [ inl m ↦ inr m | inr m ↦ inl m ]
       ]
 
-  pub tiles-packed : Tiles (firstPlace runs) (size runs) (total runs) → packed runs ≡ true
-  tiles-packed t = λ i. all_pass (inside runs (total runs)) 64 within i && all_pass (λ d. allTo d (λ e. apart runs d e)) 64 (λ d h. all_pass (λ e. apart runs d e) d (disjoint d h)) i
+  pub tiles-packed : Tiles (first_place runs) (size runs) (total runs) → packed runs ≡ true
+  tiles-packed t = λ i. all_pass (inside runs (total runs)) 64 within i && all_pass (λ d. all_to d (λ e. apart runs d e)) 64 (λ d h. all_pass (λ e. apart runs d e) d (disjoint d h)) i
     where
       within : (d : ℕ) → d < 64 → inside runs (total runs) d ≡ true
       within d h = elim (dec_lt 0 (size runs d)) [
@@ -168,12 +168,12 @@ module _ (runs : List ℕ) where
         | yes u ↦ elim (dec_lt 0 (size runs e)) [
           | no v ↦ passes-left (passes-right (eqb (size runs d) 0) (eq-eqb (size runs e) 0 (omega arith))) _
           | yes v ↦ passes-right (eqb (size runs d) 0 || eqb (size runs e) 0) (elim (t.disjoint d e h (omega arith) (λ s. omega arith) u v) [
-            | inl m ↦ passes-left (le-leb (end d) (firstPlace runs e) m) _
-            | inr m ↦ passes-right (leb (end d) (firstPlace runs e)) (le-leb (end e) (firstPlace runs d) m)
+            | inl m ↦ passes-left (le-leb (end d) (first_place runs e) m) _
+            | inr m ↦ passes-right (leb (end d) (first_place runs e)) (le-leb (end e) (first_place runs d) m)
           ])
         ]
       ]
 
   -- each place below the end is one of exactly one district's
   pub each-place-once : packed runs ≡ true → (place : ℕ) → place < total runs → sum_to 64 (λ d. count (covers runs place d)) ≡ 1
-  each-place-once e place h = covered-once (firstPlace runs) (size runs) (total runs) refl (packed-tiles e) place h
+  each-place-once e place h = covered-once (first_place runs) (size runs) (total runs) refl (packed-tiles e) place h

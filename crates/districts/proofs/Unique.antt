@@ -10,12 +10,12 @@ use Rattle.districts.specs.Answers.{Belongs, border, one, none, several, Answer,
 use Rattle.districts.specs.Register.{Register}
 use Rattle.districts.specs.Lent.{Lists, formed, means, Leaves}
 use Rattle.refusals.specs.Verdicts.{Verdict, accept, refuse}
-use Rattle.refusals.proofs.Numbers.{refusalOf, refusal-back}
-use Rattle.ring.proofs.Unique.{codeTouch, touch-back}
+use Rattle.refusals.proofs.Numbers.{refusal_of, refusal-back}
+use Rattle.ring.proofs.Unique.{code_touch, touch-back}
 
 -- the rules' values read back
 abbrev pub class_of : Belongs → Class
-class_of (border d t) = Border d (codeTouch t)
+class_of (border d t) = Border d (code_touch t)
 class_of (one d) = One d
 class_of none = None
 class_of (several d n) = Several d n
@@ -28,14 +28,14 @@ class_back (Several d n) = refl
 
 abbrev code_of : Answer → Assigned
 code_of (report r b) = Sorted (record { number = r; class = class_of b })
-code_of (refused n) = Refused (refusalOf n)
+code_of (refused n) = Refused (refusal_of n)
 
 code-back : (a : Assigned) → code_of (answer_of a) ≡ a
 code-back (Sorted r) = λ i. Sorted (record { number = r.number; class = class_back r.class i })
 code-back (Refused r) = ap Refused (refusal-back r)
 
-pub answerOf-injective : (a b : Assigned) → answer_of a ≡ answer_of b → a ≡ b
-answerOf-injective a b e = sym (code-back a) ∙ ap code_of e ∙ code-back b
+pub answer_of-injective : (a b : Assigned) → answer_of a ≡ answer_of b → a ≡ b
+answer_of-injective a b e = sym (code-back a) ∙ ap code_of e ∙ code-back b
 
 pub both_left : (v w : Verdict) → v ≡ w → (g : Register) (before after after' : Lists) → Leaves v g before after → Leaves w g before after' → (means after ≡ means after') × (formed after ≡ formed after')
 both_left accept accept e g before after after' l m = (l.1 ∙ sym m.1, l.0 ∙ sym m.0)

@@ -2,9 +2,9 @@
 use Rattle.std.specs.Prelude.{ℕ, zero, suc, ◌+◌, Bool, true, ◌&&◌, List, [], ◌∷◌}
 
 -- the test passes at 0, 1, .., n - 1
-unfoldable pub allTo : ℕ → (ℕ → Bool) → Bool
-allTo zero p = true
-allTo (suc n) p = allTo n p && p n
+unfoldable pub all_to : ℕ → (ℕ → Bool) → Bool
+all_to zero p = true
+all_to (suc n) p = all_to n p && p n
 
 -- f 0 + f 1 + .. + f (n - 1)
 unfoldable pub sum_to : ℕ → (ℕ → ℕ) → ℕ
@@ -12,6 +12,6 @@ sum_to zero f = 0
 sum_to (suc n) f = sum_to n f + f n
 
 -- f 0, f 1, .., f (n - 1)
-unfoldable pub listTo {ℓ} : {A : Type ℓ} → ℕ → (ℕ → A) → List A
-listTo zero f = []
-listTo (suc n) f = f 0 ∷ listTo n (λ i. f (suc i))
+unfoldable pub list_to {ℓ} : {A : Type ℓ} → ℕ → (ℕ → A) → List A
+list_to zero f = []
+list_to (suc n) f = f 0 ∷ list_to n (λ i. f (suc i))

@@ -4,14 +4,14 @@
 use Rattle.std.specs.Prelude.{ℕ, ◌+◌, List, eqb, get_or, take, drop}
 use Rattle.ring.specs.declared.Point.{Point}
 use Rattle.ring.specs.Choices.{pick}
-use Rattle.districts.specs.Counts.{listTo}
+use Rattle.districts.specs.Counts.{list_to}
 use Rattle.districts.specs.Register.{Slot, unused, ring, Register, numbers}
 
-abbrev pub outlineSize : List ℕ → ℕ
-outlineSize runs = get_or runs 0 0
+abbrev pub outline_size : List ℕ → ℕ
+outline_size runs = get_or runs 0 0
 
-abbrev pub firstPlace : List ℕ → ℕ → ℕ
-firstPlace runs d = get_or runs (1 + d) 0
+abbrev pub first_place : List ℕ → ℕ → ℕ
+first_place runs d = get_or runs (1 + d) 0
 
 abbrev pub size : List ℕ → ℕ → ℕ
 size runs d = get_or runs (65 + d) 0
@@ -25,8 +25,8 @@ abbrev pub held : List Point → ℕ → ℕ → Slot
 held P place n = pick (eqb n 0) unused (ring (part P place n))
 
 abbrev pub district : List Point → List ℕ → ℕ → Slot
-district store runs d = held store (firstPlace runs d) (size runs d)
+district store runs d = held store (first_place runs d) (size runs d)
 
 -- the register that an outline's points, a store's and the runs hold
 unfoldable pub meaning : List Point → List Point → List ℕ → Register
-meaning outline store runs = record { outline = held outline 0 (outlineSize runs); districts = listTo numbers (district store runs) }
+meaning outline store runs = record { outline = held outline 0 (outline_size runs); districts = list_to numbers (district store runs) }

@@ -20,11 +20,11 @@ numbers = 64
 abbrev pub slot : Register → ℕ → Slot
 slot g d = get_or g.districts d unused
 
-abbrev pub inUse : Slot → Bool
-inUse unused = false
-inUse (ring P) = true
+abbrev pub in_use : Slot → Bool
+in_use unused = false
+in_use (ring P) = true
 
 -- the vertices of a slot; an unused one has none
-abbrev pub verticesOf : Slot → List Point
-verticesOf unused = []
-verticesOf (ring P) = P
+abbrev pub vertices_of : Slot → List Point
+vertices_of unused = []
+vertices_of (ring P) = P

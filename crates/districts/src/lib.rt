@@ -4,11 +4,11 @@ mod packing;
 mod runs;
 
 ghost use Rattle.std.specs.Prelude.{◌≡◌, true, List, ◌≤◌, length};
-ghost use Rattle.districts.specs.WellFormed.{shaped as shapedLists, counted as countedRuns, total as total_of, within};
+ghost use Rattle.districts.specs.WellFormed.{shaped as shaped_lists, counted as counted_runs, total as total_of, within};
 ghost use Rattle.ring.specs.declared.Point.{Point};
 ghost use Rattle.districts.specs.Lists.{meaning};
 ghost use Rattle.districts.specs.Lent.{lent, formed, means, beginning};
-ghost use Rattle.refusals.specs.Verdicts.{verdict, verdictOf};
+ghost use Rattle.refusals.specs.Verdicts.{verdict, verdict_of};
 
 use refusals::{Refusal, Verdict};
 use ring::Touch;
@@ -65,7 +65,7 @@ pub fn well_formed(ox: &[i32], oy: &[i32], sx: &[i32], sy: &[i32], runs: &[u32])
 // Refusal 1 where the lists are known not to be well-formed, then 2 where there is no outline.
 pub fn begins(good: bool, runs: &[u32]) -> Verdict
     requires { good ≡ true → length runs.now ≡ 129 }
-    ensures { (outline store : List Point) → verdictOf result ≡ verdict (beginning good (meaning outline store runs.now)) }
+    ensures { (outline store : List Point) → verdict_of result ≡ verdict (beginning good (meaning outline store runs.now)) }
 {
     if !good {
         return Verdict::Refused(Refusal::NotWellFormed);
@@ -78,13 +78,13 @@ pub fn begins(good: bool, runs: &[u32]) -> Verdict
 
 // Refusal 1 where the lists are not well-formed, then 2 where there is no outline.
 pub fn usable(ox: &[i32], oy: &[i32], sx: &[i32], sy: &[i32], runs: &[u32]) -> Verdict
-    ensures { verdictOf result ≡ verdict (beginning (formed (lent ox.now oy.now sx.now sy.now runs.now)) (means (lent ox.now oy.now sx.now sy.now runs.now))) }
+    ensures { verdict_of result ≡ verdict (beginning (formed (lent ox.now oy.now sx.now sy.now runs.now)) (means (lent ox.now oy.now sx.now sy.now runs.now))) }
 {
     begins(well_formed(ox, oy, sx, sy, runs), runs)
 }
 
 fn shaped(ox: &[i32], oy: &[i32], sx: &[i32], sy: &[i32], runs: &[u32]) -> bool
-    ensures { result ≡ shapedLists ox.now oy.now sx.now sy.now runs.now }
+    ensures { result ≡ shaped_lists ox.now oy.now sx.now sy.now runs.now }
 {
     ((ox.len() == COLUMN_LENGTH) & (oy.len() == COLUMN_LENGTH))
         & (((sx.len() == COLUMN_LENGTH) & (sy.len() == COLUMN_LENGTH))
@@ -94,7 +94,7 @@ fn shaped(ox: &[i32], oy: &[i32], sx: &[i32], sy: &[i32], runs: &[u32]) -> bool
 fn counted(runs: &[u32], all: usize) -> bool
     requires runs_len { length runs.now ≡ 129 }
     requires all_value { all ≡ total_of runs.now }
-    ensures { result ≡ countedRuns runs.now }
+    ensures { result ≡ counted_runs runs.now }
 {
     let n = outline_size(runs);
     (runs::allowed(n) & runs::all_allowed(runs))

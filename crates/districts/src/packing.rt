@@ -2,9 +2,9 @@
 // A table says which run starts at a place. One has to start at place 0, and each has to end where one starts or at the end of all: then from run to run one comes
 // to the end, and over all of them, since the end is where their sizes add up to. That needs no walk from run to run, in which every step waits for the last.
 ghost use Rattle.std.specs.Prelude.{◌≡◌, ◌+◌, ◌<◌, ◌≤◌, length};
-ghost use Rattle.districts.specs.Counts.{allTo};
-ghost use Rattle.districts.specs.Places.{Marked, met as metPlace, joined as joinedRun};
-ghost use Rattle.districts.specs.WellFormed.{packed as packedRuns, total as total_of};
+ghost use Rattle.districts.specs.Counts.{all_to};
+ghost use Rattle.districts.specs.Places.{Marked, met as met_place, joined as joined_run};
+ghost use Rattle.districts.specs.WellFormed.{packed as packed_runs, total as total_of};
 
 use crate::{first_place, size};
 
@@ -49,7 +49,7 @@ fn mark_all(runs: &[u32], starts: &mut [u8], all: usize)
 // Whether a run starts at the place, or all end there.
 fn met(starts: &[u8], all: usize, place: usize) -> bool
     requires { (length starts.now ≡ 2048) × (all ≤ 2048) }
-    ensures { result ≡ metPlace starts.now all place }
+    ensures { result ≡ met_place starts.now all place }
 {
     if place < all {
         return 0 < starts[place];
@@ -61,7 +61,7 @@ fn met(starts: &[u8], all: usize, place: usize) -> bool
 fn joined(runs: &[u32], starts: &[u8], all: usize, d: usize) -> bool
     requires runs_len { (length runs.now ≡ 129) × (d < 64) }
     requires starts_len { (length starts.now ≡ 2048) × (all ≤ 2048) }
-    ensures { result ≡ joinedRun runs.now starts.now all d }
+    ensures { result ≡ joined_run runs.now starts.now all d }
 {
     let n = size(runs, d);
     (n == 0) | met(starts, all, first_place(runs, d) + n)
@@ -71,7 +71,7 @@ fn all_joined(runs: &[u32], starts: &[u8], all: usize) -> bool
     requires runs_len { length runs.now ≡ 129 }
     requires all_value { all ≡ total_of runs.now }
     requires starts_len { (length starts.now ≡ 2048) × (all ≤ 2048) }
-    ensures { result ≡ allTo 64 (joinedRun runs.now starts.now all) }
+    ensures { result ≡ all_to 64 (joined_run runs.now starts.now all) }
 {
     let mut good = true;
     let mut seen = 0;
@@ -88,7 +88,7 @@ pub fn packed(runs: &[u32], all: usize) -> bool
     requires runs_len { length runs.now ≡ 129 }
     requires all_value { all ≡ total_of runs.now }
     requires all_bound { all ≤ 2048 }
-    ensures { result ≡ packedRuns runs.now }
+    ensures { result ≡ packed_runs runs.now }
 {
     let mut starts = [0u8; ring::MOST_VERTICES];
     mark_all(runs, &mut starts, all);

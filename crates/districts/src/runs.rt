@@ -1,7 +1,7 @@
 // The list of runs, read: the outline's number of vertices, then the 64 first places, then the 64 numbers of vertices.
 ghost use Rattle.std.specs.Prelude.{◌≡◌, ◌<◌, ◌^◌, length};
-ghost use Rattle.districts.specs.Counts.{allTo};
-ghost use Rattle.districts.specs.Lists.{outlineSize, firstPlace, size as size_of};
+ghost use Rattle.districts.specs.Counts.{all_to};
+ghost use Rattle.districts.specs.Lists.{outline_size, first_place, size as size_of};
 ghost use Rattle.districts.specs.WellFormed.{sized, total as total_of};
 
 // Where the first places and the numbers of vertices begin.
@@ -17,7 +17,7 @@ fn wide(x: u32) -> usize
 
 pub fn outline_size(runs: &[u32]) -> usize
     requires { length runs.now ≡ 129 }
-    ensures { (result ≡ outlineSize runs.now) × (result < 2 ^ 32) }
+    ensures { (result ≡ outline_size runs.now) × (result < 2 ^ 32) }
 {
     wide(runs[0])
 }
@@ -25,7 +25,7 @@ pub fn outline_size(runs: &[u32]) -> usize
 pub fn first_place(runs: &[u32], d: usize) -> usize
     requires runs_len { length runs.now ≡ 129 }
     requires d_bound { d < 64 }
-    ensures { (result ≡ firstPlace runs.now d) × (result < 2 ^ 32) }
+    ensures { (result ≡ first_place runs.now d) × (result < 2 ^ 32) }
 {
     wide(runs[FIRST_PLACES + d])
 }
@@ -61,7 +61,7 @@ pub fn allowed(n: usize) -> bool
 
 pub fn all_allowed(runs: &[u32]) -> bool
     requires { length runs.now ≡ 129 }
-    ensures { result ≡ allTo 64 (λ d. sized (size_of runs.now d)) }
+    ensures { result ≡ all_to 64 (λ d. sized (size_of runs.now d)) }
 {
     let mut good = true;
     let mut d = 0;

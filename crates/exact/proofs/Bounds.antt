@@ -9,73 +9,73 @@ use lib.IntN.{ℤ, pos, negsuc, neg_ℤ, nat_abs, sub_ℕ, ◌+ℤ◌, ◌-ℤ�
 use lib.Signed.{mag, quot_z, nat_abs-le}
 use mir.Syntax.{Width, w32, w64}
 use mir.Val.{SFits, hbits}
-use Rattle.exact.proofs.Parts.{subℕ-cases}
+use Rattle.exact.proofs.Parts.{sub_ℕ-cases}
 
-pub natAbs-neg : (z : ℤ) → nat_abs (neg_ℤ z) ≡ nat_abs z
-natAbs-neg (pos zero) = refl
-natAbs-neg (pos (suc n)) = refl
-natAbs-neg (negsuc n) = refl
+pub nat_abs-neg : (z : ℤ) → nat_abs (neg_ℤ z) ≡ nat_abs z
+nat_abs-neg (pos zero) = refl
+nat_abs-neg (pos (suc n)) = refl
+nat_abs-neg (negsuc n) = refl
 
-natAbs-subℕ : (a b : ℕ) → nat_abs (sub_ℕ a b) ≤ a + b
-natAbs-subℕ a b = subℕ-cases a b (λ z. nat_abs z ≤ a + b) (λ k e. omega arith) (λ k e. omega arith)
+nat_abs-sub_ℕ : (a b : ℕ) → nat_abs (sub_ℕ a b) ≤ a + b
+nat_abs-sub_ℕ a b = sub_ℕ-cases a b (λ z. nat_abs z ≤ a + b) (λ k e. omega arith) (λ k e. omega arith)
 
-pub natAbs-add : (x y : ℤ) → nat_abs (x +ℤ y) ≤ nat_abs x + nat_abs y
-natAbs-add (pos a) (pos b) = omega arith
-natAbs-add (pos a) (negsuc b) = natAbs-subℕ a (suc b)
-natAbs-add (negsuc a) (pos b) = omega (arith, natAbs-subℕ b (suc a))
-natAbs-add (negsuc a) (negsuc b) = omega arith
+pub nat_abs-add : (x y : ℤ) → nat_abs (x +ℤ y) ≤ nat_abs x + nat_abs y
+nat_abs-add (pos a) (pos b) = omega arith
+nat_abs-add (pos a) (negsuc b) = nat_abs-sub_ℕ a (suc b)
+nat_abs-add (negsuc a) (pos b) = omega (arith, nat_abs-sub_ℕ b (suc a))
+nat_abs-add (negsuc a) (negsuc b) = omega arith
 
-pub natAbs-sub : (x y : ℤ) → nat_abs (x -ℤ y) ≤ nat_abs x + nat_abs y
-natAbs-sub x y = omega (arith, natAbs-add x (neg_ℤ y), natAbs-neg y)
+pub nat_abs-sub : (x y : ℤ) → nat_abs (x -ℤ y) ≤ nat_abs x + nat_abs y
+nat_abs-sub x y = omega (arith, nat_abs-add x (neg_ℤ y), nat_abs-neg y)
 
 pub nat_abs_mul : (x y : ℤ) → nat_abs (x *ℤ y) ≡ nat_abs x * nat_abs y
 nat_abs_mul (pos a) (pos b) = refl
-nat_abs_mul (pos a) (negsuc b) = natAbs-neg (pos (a * suc b))
-nat_abs_mul (negsuc a) (pos b) = natAbs-neg (pos (suc a * b))
+nat_abs_mul (pos a) (negsuc b) = nat_abs-neg (pos (a * suc b))
+nat_abs_mul (negsuc a) (pos b) = nat_abs-neg (pos (suc a * b))
 nat_abs_mul (negsuc a) (negsuc b) = refl
 
-pub natAbs-quot : (x y : ℤ) → nat_abs (quot_z x y) ≤ nat_abs x
-natAbs-quot (pos a) (pos b) = div-le_self a b
-natAbs-quot (pos a) (negsuc b) = le_trans (le_of_eq (natAbs-neg (pos (a / suc b)))) (div-le_self a (suc b))
-natAbs-quot (negsuc a) (pos b) = le_trans (le_of_eq (natAbs-neg (pos (suc a / b)))) (div-le_self (suc a) b)
-natAbs-quot (negsuc a) (negsuc b) = div-le_self (suc a) (suc b)
+pub nat_abs-quot : (x y : ℤ) → nat_abs (quot_z x y) ≤ nat_abs x
+nat_abs-quot (pos a) (pos b) = div-le_self a b
+nat_abs-quot (pos a) (negsuc b) = le_trans (le_of_eq (nat_abs-neg (pos (a / suc b)))) (div-le_self a (suc b))
+nat_abs-quot (negsuc a) (pos b) = le_trans (le_of_eq (nat_abs-neg (pos (suc a / b)))) (div-le_self (suc a) b)
+nat_abs-quot (negsuc a) (negsuc b) = div-le_self (suc a) (suc b)
 
 -- ---- what fits a signed width
 
-pub sfits-natAbs : (w : Width) (z : ℤ) → nat_abs z < 2 ^ hbits w → SFits w z
-sfits-natAbs w (pos n) h = record { sfits = h }
-sfits-natAbs w (negsuc n) h = record { sfits = omega arith }
+pub sfits-nat_abs : (w : Width) (z : ℤ) → nat_abs z < 2 ^ hbits w → SFits w z
+sfits-nat_abs w (pos n) h = record { sfits = h }
+sfits-nat_abs w (negsuc n) h = record { sfits = omega arith }
 
-pub natAbs-sfits : (w : Width) (z : ℤ) → SFits w z → nat_abs z ≤ 2 ^ hbits w
-natAbs-sfits w z f = nat_abs-le z f.sfits
+pub nat_abs-sfits : (w : Width) (z : ℤ) → SFits w z → nat_abs z ≤ 2 ^ hbits w
+nat_abs-sfits w z f = nat_abs-le z f.sfits
 
--- ---- the ruleset. A search takes the bounds j and k from the hypotheses, and their comparison computes. Where a bound is not at hand as it stands, as in a sum of three, `within-fits w z k (omega (arith, natAbs-add x y)) tt` says it
+-- ---- the ruleset. A search takes the bounds j and k from the hypotheses, and their comparison computes. Where a bound is not at hand as it stands, as in a sum of three, `within-fits w z k (omega (arith, nat_abs-add x y)) tt` says it
 
 -- sizes of results
 pub add-within : (x y : ℤ) (j k n : ℕ) → nat_abs x ≤ j → nat_abs y ≤ k → T (leb (j + k) n) → nat_abs (x +ℤ y) ≤ n
-add-within x y j k n g h t = omega (arith, natAbs-add x y, leb→le (j + k) n t)
+add-within x y j k n g h t = omega (arith, nat_abs-add x y, leb→le (j + k) n t)
 
 pub sub_within : (x y : ℤ) (j k n : ℕ) → nat_abs x ≤ j → nat_abs y ≤ k → T (leb (j + k) n) → nat_abs (x -ℤ y) ≤ n
-sub_within x y j k n g h t = omega (arith, natAbs-sub x y, leb→le (j + k) n t)
+sub_within x y j k n g h t = omega (arith, nat_abs-sub x y, leb→le (j + k) n t)
 
 pub mul-within : (x y : ℤ) (j k n : ℕ) → nat_abs x ≤ j → nat_abs y ≤ k → T (leb (j * k) n) → nat_abs (x *ℤ y) ≤ n
 mul-within x y j k n g h t = le_trans (le_of_eq (nat_abs_mul x y)) (le_trans (mul-le-mul g h) (leb→le (j * k) n t))
 
 pub neg-within : (z : ℤ) (n : ℕ) → nat_abs z ≤ n → nat_abs (neg_ℤ z) ≤ n
-neg-within z n h = le_trans (le_of_eq (natAbs-neg z)) h
+neg-within z n h = le_trans (le_of_eq (nat_abs-neg z)) h
 
 pub quot-within : (x y : ℤ) (n : ℕ) → nat_abs x ≤ n → nat_abs (quot_z x y) ≤ n
-quot-within x y n h = le_trans (natAbs-quot x y) h
+quot-within x y n h = le_trans (nat_abs-quot x y) h
 
 -- widths of results, by the sizes
 pub within-fits : (w : Width) (z : ℤ) (k : ℕ) → nat_abs z ≤ k → T (ltb k (2 ^ hbits w)) → SFits w z
-within-fits w z k h t = sfits-natAbs w z (lt_of_le_of_lt h (ltb→lt k (2 ^ hbits w) t))
+within-fits w z k h t = sfits-nat_abs w z (lt_of_le_of_lt h (ltb→lt k (2 ^ hbits w) t))
 
 pub within-add : (w : Width) (x y : ℤ) (j k : ℕ) → nat_abs x ≤ j → nat_abs y ≤ k → T (ltb (j + k) (2 ^ hbits w)) → SFits w (x +ℤ y)
-within-add w x y j k g h t = within-fits w (x +ℤ y) (j + k) (le_trans (natAbs-add x y) (add-le-add g h)) t
+within-add w x y j k g h t = within-fits w (x +ℤ y) (j + k) (le_trans (nat_abs-add x y) (add-le-add g h)) t
 
 pub within-sub : (w : Width) (x y : ℤ) (j k : ℕ) → nat_abs x ≤ j → nat_abs y ≤ k → T (ltb (j + k) (2 ^ hbits w)) → SFits w (x -ℤ y)
-within-sub w x y j k g h t = within-fits w (x -ℤ y) (j + k) (le_trans (natAbs-sub x y) (add-le-add g h)) t
+within-sub w x y j k g h t = within-fits w (x -ℤ y) (j + k) (le_trans (nat_abs-sub x y) (add-le-add g h)) t
 
 pub within-mul : (w : Width) (x y : ℤ) (j k : ℕ) → nat_abs x ≤ j → nat_abs y ≤ k → T (ltb (j * k) (2 ^ hbits w)) → SFits w (x *ℤ y)
 within-mul w x y j k g h t = within-fits w (x *ℤ y) (j * k) (le_trans (le_of_eq (nat_abs_mul x y)) (mul-le-mul g h)) t
@@ -99,20 +99,20 @@ within-from w x k n h t = within-sub w (pos n) x n k (le_refl n) h t
 
 -- of two numbers of a narrower width
 pub narrow-add : (w v : Width) (x y : ℤ) → SFits v x → SFits v y → T (ltb (2 ^ hbits v + 2 ^ hbits v) (2 ^ hbits w)) → SFits w (x +ℤ y)
-narrow-add w v x y f g t = within-add w x y (2 ^ hbits v) (2 ^ hbits v) (natAbs-sfits v x f) (natAbs-sfits v y g) t
+narrow-add w v x y f g t = within-add w x y (2 ^ hbits v) (2 ^ hbits v) (nat_abs-sfits v x f) (nat_abs-sfits v y g) t
 
 pub narrow-sub : (w v : Width) (x y : ℤ) → SFits v x → SFits v y → T (ltb (2 ^ hbits v + 2 ^ hbits v) (2 ^ hbits w)) → SFits w (x -ℤ y)
-narrow-sub w v x y f g t = within-sub w x y (2 ^ hbits v) (2 ^ hbits v) (natAbs-sfits v x f) (natAbs-sfits v y g) t
+narrow-sub w v x y f g t = within-sub w x y (2 ^ hbits v) (2 ^ hbits v) (nat_abs-sfits v x f) (nat_abs-sfits v y g) t
 
 pub narrow-mul : (w v : Width) (x y : ℤ) → SFits v x → SFits v y → T (ltb (2 ^ hbits v * 2 ^ hbits v) (2 ^ hbits w)) → SFits w (x *ℤ y)
-narrow-mul w v x y f g t = within-mul w x y (2 ^ hbits v) (2 ^ hbits v) (natAbs-sfits v x f) (natAbs-sfits v y g) t
+narrow-mul w v x y f g t = within-mul w x y (2 ^ hbits v) (2 ^ hbits v) (nat_abs-sfits v x f) (nat_abs-sfits v y g) t
 
 pub narrow-neg : (w v : Width) (z : ℤ) → SFits v z → T (ltb (2 ^ hbits v) (2 ^ hbits w)) → SFits w (neg_ℤ z)
-narrow-neg w v z f t = within-neg w z (2 ^ hbits v) (natAbs-sfits v z f) t
+narrow-neg w v z f t = within-neg w z (2 ^ hbits v) (nat_abs-sfits v z f) t
 
 -- one step of widths only, so that a search cannot widen again and again
 pub narrow-fits : (z : ℤ) → SFits w32 z → SFits w64 z
-narrow-fits z f = within-fits w64 z (2 ^ 31) (natAbs-sfits w32 z f) tt
+narrow-fits z f = within-fits w64 z (2 ^ 31) (nat_abs-sfits w32 z f) tt
 
 -- a quotient fits where its dividend does, except that a negative divisor can take the least number out of its width
 pub quot_fits : (w : Width) (z : ℤ) (n : ℕ) → SFits w z → SFits w (quot_z z (pos n))

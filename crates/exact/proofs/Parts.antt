@@ -16,15 +16,15 @@ down (pos n) = zero
 down (negsuc n) = suc n
 
 -- what holds of a - b, told by the two ways it can come out
-pub subℕ-cases : (a b : ℕ) (P : ℤ → Type 0) → ((k : ℕ) → a ≡ b + k → P (pos k)) → ((k : ℕ) → b ≡ a + suc k → P (negsuc k)) → P (sub_ℕ a b)
-subℕ-cases a b P above below = go (ltb a b) (ltb→lt a b) (nltb→le a b)
+pub sub_ℕ-cases : (a b : ℕ) (P : ℤ → Type 0) → ((k : ℕ) → a ≡ b + k → P (pos k)) → ((k : ℕ) → b ≡ a + suc k → P (negsuc k)) → P (sub_ℕ a b)
+sub_ℕ-cases a b P above below = go (ltb a b) (ltb→lt a b) (nltb→le a b)
   where
     go : (c : Bool) → (T c → a < b) → (T (not c) → b ≤ a) → P (cond c (negsuc (b - suc a)) (pos (a - b)))
     go true less more = below (b - suc a) (omega (arith, less tt))
     go false less more = above (a - b) (omega (arith, more tt))
 
-parts-subℕ : (a b : ℕ) → up (sub_ℕ a b) + b ≡ down (sub_ℕ a b) + a
-parts-subℕ a b = subℕ-cases a b (λ z. up z + b ≡ down z + a) (λ k e. omega arith) (λ k e. omega arith)
+parts-sub_ℕ : (a b : ℕ) → up (sub_ℕ a b) + b ≡ down (sub_ℕ a b) + a
+parts-sub_ℕ a b = sub_ℕ-cases a b (λ z. up z + b ≡ down z + a) (λ k e. omega arith) (λ k e. omega arith)
 
 pub parts-neg : (z : ℤ) → (up (neg_ℤ z) ≡ down z) × (down (neg_ℤ z) ≡ up z)
 parts-neg (pos zero) = (refl, refl)
@@ -33,8 +33,8 @@ parts-neg (negsuc n) = (refl, refl)
 
 pub parts_add : (x y : ℤ) → up (x +ℤ y) + (down x + down y) ≡ down (x +ℤ y) + (up x + up y)
 parts_add (pos a) (pos b) = omega arith
-parts_add (pos a) (negsuc b) = omega (arith, parts-subℕ a (suc b))
-parts_add (negsuc a) (pos b) = omega (arith, parts-subℕ b (suc a))
+parts_add (pos a) (negsuc b) = omega (arith, parts-sub_ℕ a (suc b))
+parts_add (negsuc a) (pos b) = omega (arith, parts-sub_ℕ b (suc a))
 parts_add (negsuc a) (negsuc b) = omega arith
 
 pub parts-sub : (x y : ℤ) → up (x -ℤ y) + (down x + up y) ≡ down (x -ℤ y) + (up x + down y)

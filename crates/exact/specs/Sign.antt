@@ -11,11 +11,11 @@ sign (pos (suc n)) = plus
 sign (negsuc n) = minus
 
 -- whether two whole numbers are the same
-abbrev pub eqZ : ℤ → ℤ → Bool
-eqZ (pos a) (pos b) = eqb a b
-eqZ (pos a) (negsuc b) = false
-eqZ (negsuc a) (pos b) = false
-eqZ (negsuc a) (negsuc b) = eqb a b
+abbrev pub eq_z : ℤ → ℤ → Bool
+eq_z (pos a) (pos b) = eqb a b
+eq_z (pos a) (negsuc b) = false
+eq_z (negsuc a) (pos b) = false
+eq_z (negsuc a) (negsuc b) = eqb a b
 
 -- no part of the arrow is longer than two grid coordinates can be apart
 pub record Short (p : Arrow) : Type 0 where

@@ -5,8 +5,8 @@ ghost use Rattle.ring.specs.Locate.{located};
 ghost use Rattle.districts.specs.Lent.{lent, formed, means};
 ghost use Rattle.register.specs.Sorting.{assigned};
 ghost use Rattle.fixes.specs.Millimetres.{placed};
-ghost use Rattle.register.specs.Placing.{assignedAt};
-ghost use Rattle.codes.specs.Codes.{placeCode, answerCode, Tells, PlaceTells};
+ghost use Rattle.register.specs.Placing.{assigned_at};
+ghost use Rattle.codes.specs.Codes.{place_code, answer_code, Tells, PlaceTells};
 ghost use Rattle.codes.specs.Batches.{BatchTells, BatchCounts};
 ghost use Rattle.exports.specs.Calls.{FoundTells, SplitTells, MergeTells, CountTells};
 
@@ -17,7 +17,7 @@ use register::Position;
 // Where a point lies against one ring.
 #[unsafe(no_mangle)]
 pub extern "C" fn launchramp_locate(ring: &[i32], x: i32, y: i32, values: &mut Values) -> u32
-    ensures { Tells result values.new (placeCode (located ring.now x y)) }
+    ensures { Tells result values.new (place_code (located ring.now x y)) }
 {
     codes::place(ring::locate(ring, x, y), values)
 }
@@ -103,7 +103,7 @@ pub extern "C" fn launchramp_assign(
     y: i32,
     values: &mut Values,
 ) -> u32
-    ensures { Tells result values.new (answerCode (assigned (formed (lent ox.now oy.now sx.now sy.now runs.now)) (means (lent ox.now oy.now sx.now sy.now runs.now)) 0 x y)) }
+    ensures { Tells result values.new (answer_code (assigned (formed (lent ox.now oy.now sx.now sy.now runs.now)) (means (lent ox.now oy.now sx.now sy.now runs.now)) 0 x y)) }
 {
     codes::assigned(register::assign(ox, oy, sx, sy, runs, 0, x, y), values)
 }
@@ -193,7 +193,7 @@ pub extern "C" fn launchramp_assign_fix(
     northing: f64,
     values: &mut Values,
 ) -> u32
-    ensures { Tells result values.new (answerCode (assignedAt (formed (lent ox.now oy.now sx.now sy.now runs.now)) (means (lent ox.now oy.now sx.now sy.now runs.now)) 0 (Position.Fix (record { easting = easting; northing = northing })))) }
+    ensures { Tells result values.new (answer_code (assigned_at (formed (lent ox.now oy.now sx.now sy.now runs.now)) (means (lent ox.now oy.now sx.now sy.now runs.now)) 0 (Position.Fix (record { easting = easting; northing = northing })))) }
 {
     let position = Position::Fix(Fix { easting, northing });
     codes::assigned(
@@ -215,7 +215,7 @@ pub extern "C" fn launchramp_assign_fix_counted(
     counts: &mut [u32; 67],
     values: &mut Values,
 ) -> u32
-    ensures { CountTells result values.new (assignedAt (formed (lent ox.now oy.now sx.now sy.now runs.now)) (means (lent ox.now oy.now sx.now sy.now runs.now)) 0 (Position.Fix (record { easting = easting; northing = northing }))) counts.old counts.new }
+    ensures { CountTells result values.new (assigned_at (formed (lent ox.now oy.now sx.now sy.now runs.now)) (means (lent ox.now oy.now sx.now sy.now runs.now)) 0 (Position.Fix (record { easting = easting; northing = northing }))) counts.old counts.new }
 {
     let position = Position::Fix(Fix { easting, northing });
     let answer = register::assign_at(ox, oy, sx, sy, runs, 0, position);
@@ -232,7 +232,7 @@ pub extern "C" fn launchramp_assign_missing(
     runs: &[u32],
     values: &mut Values,
 ) -> u32
-    ensures { Tells result values.new (answerCode (assignedAt (formed (lent ox.now oy.now sx.now sy.now runs.now)) (means (lent ox.now oy.now sx.now sy.now runs.now)) 0 Position.Missing)) }
+    ensures { Tells result values.new (answer_code (assigned_at (formed (lent ox.now oy.now sx.now sy.now runs.now)) (means (lent ox.now oy.now sx.now sy.now runs.now)) 0 Position.Missing)) }
 {
     codes::assigned(
         register::assign_at(ox, oy, sx, sy, runs, 0, Position::Missing),

@@ -15,7 +15,7 @@ use lib.Ieee.Fits.{down_pos}
 use borrow.Author.Tests.{ltb-false, ne_eqb, le-leb, lt-leb, lt-ltb}
 use Rattle.ring.specs.Grid.{beyond}
 use Rattle.ring.proofs.Pick.{pick_true, pick-false}
-use Rattle.fixes.specs.Nearest.{with_sign, finite, inMetre}
+use Rattle.fixes.specs.Nearest.{with_sign, finite, in_metre}
 use Rattle.fixes.specs.Millimetres.{rounded, millimetres, size_of, StandsFor}
 use Rattle.fixes.proofs.Closest.{rounded-same, at_least, at_most}
 
@@ -77,13 +77,13 @@ by_field x h = elim (dec_lt (field x) 2047) [
 ]
 
 -- a double that is a / c metres in size
-value-is : (x : Float) (s : Bool) (a c : ℕ) → 0 < c → HasValue x s a c → millimetres x ≡ with_sign s (rounded (inMetre * a) c)
+value-is : (x : Float) (s : Bool) (a c : ℕ) → 0 < c → HasValue x s a c → millimetres x ≡ with_sign s (rounded (in_metre * a) c)
 value-is nan s a c h v = absurd v
 value-is (inf t) s a c h v = absurd v
 value-is (fin t m e) s a c h v =
     let w = v.1 in
-    ap (λ u. with_sign u (rounded (inMetre * m * up e) (down e))) v.0
-    ∙ ap (with_sign s) (rounded-same (inMetre * m * up e) (down e) (inMetre * a) c (omega arith) (down_pos e) h)
+    ap (λ u. with_sign u (rounded (in_metre * m * up e) (down e))) v.0
+    ∙ ap (with_sign s) (rounded-same (in_metre * m * up e) (down e) (in_metre * a) c (omega arith) (down_pos e) h)
 
 -- ---- its size in millimetres
 
@@ -92,31 +92,31 @@ abbrev pub bound : ℕ
 bound = 1_048_576_000
 
 -- the code divides by the least power of two that will do
-shortened : (q k l : ℕ) → k ≤ l → rounded (inMetre * (q * 2 ^ k)) (2 ^ l) ≡ rounded (inMetre * q) (2 ^ (l - k))
+shortened : (q k l : ℕ) → k ≤ l → rounded (in_metre * (q * 2 ^ k)) (2 ^ l) ≡ rounded (in_metre * q) (2 ^ (l - k))
 shortened q k l h =
     let power : 2 ^ l ≡ 2 ^ k * 2 ^ (l - k) = ap (λ n. 2 ^ n) (omega arith) ∙ pow-add 2 k (l - k) in
     let times : q * 2 ^ l ≡ q * (2 ^ k * 2 ^ (l - k)) = ap (λ n. q * n) power in
-    rounded-same (inMetre * (q * 2 ^ k)) (2 ^ l) (inMetre * q) (2 ^ (l - k)) (omega arith) (pow_pos l) (pow_pos (l - k))
+    rounded-same (in_metre * (q * 2 ^ k)) (2 ^ l) (in_metre * q) (2 ^ (l - k)) (omega arith) (pow_pos l) (pow_pos (l - k))
 
 -- with l = 1074: a field from 1043 on, k being one less
-far : (t k l : ℕ) → l ≤ k + 32 → bound ≤ rounded (inMetre * ((2 ^ 52 + t) * 2 ^ k)) (2 ^ l)
+far : (t k l : ℕ) → l ≤ k + 32 → bound ≤ rounded (in_metre * ((2 ^ 52 + t) * 2 ^ k)) (2 ^ l)
 far t k l h =
     let powers : 2 ^ (l + 20) ≤ 2 ^ (k + 52) = pow_mono (omega arith) in
     let e : 2 ^ l * 2 ^ 20 ≤ 2 ^ k * 2 ^ 52 = rw (← pow-add 2 l 20, ← pow-add 2 k 52) powers in
-    at_least (inMetre * ((2 ^ 52 + t) * 2 ^ k)) (2 ^ l) bound (pow_pos l) (omega arith)
+    at_least (in_metre * ((2 ^ 52 + t) * 2 ^ k)) (2 ^ l) bound (pow_pos l) (omega arith)
 
 -- and a field below 1043
-few : (q j : ℕ) → q ≤ 2 ^ 53 → 33 ≤ j → rounded (inMetre * q) (2 ^ j) ≤ bound
+few : (q j : ℕ) → q ≤ 2 ^ 53 → 33 ≤ j → rounded (in_metre * q) (2 ^ j) ≤ bound
 few q j h g =
     let e : 2 ^ 33 ≤ 2 ^ j = pow_mono g in
-    at_most (inMetre * q) (2 ^ j) bound (pow_pos j) (omega arith)
+    at_most (in_metre * q) (2 ^ j) bound (pow_pos j) (omega arith)
 
 -- the size without the short way for far values
-abbrev exactSize : ℕ → ℕ → ℕ
-exactSize zero t = rounded (inMetre * (t * 2 ^ 0)) (2 ^ 1074)
-exactSize (suc k) t = rounded (inMetre * ((2 ^ 52 + t) * 2 ^ k)) (2 ^ 1074)
+abbrev exact_size : ℕ → ℕ → ℕ
+exact_size zero t = rounded (in_metre * (t * 2 ^ 0)) (2 ^ 1074)
+exact_size (suc k) t = rounded (in_metre * ((2 ^ 52 + t) * 2 ^ k)) (2 ^ 1074)
 
-size_is : (s : Bool) (f t : ℕ) → f < 2047 → millimetres (of_fields binary64 s f t) ≡ with_sign s (exactSize f t)
+size_is : (s : Bool) (f t : ℕ) → f < 2047 → millimetres (of_fields binary64 s f t) ≡ with_sign s (exact_size f t)
 unfolding of_fields
 size_is s zero t h = value-is (odd 53 s t 0 1074) s (t * 2 ^ 0) (2 ^ 1074) (pow_pos 1074) (odd_sign 53 s t 0 1074)
 size_is s (suc k) t h =
@@ -139,23 +139,23 @@ alike-beyond n r e h = record {
   same = λ g. omega (arith, ltb-false 1_000_000_000 r g);
 }
 
-alike-near : (f t : ℕ) → t < 2 ^ 52 → f < 1043 → Alike (size_of f t) (exactSize f t)
+alike-near : (f t : ℕ) → t < 2 ^ 52 → f < 1043 → Alike (size_of f t) (exact_size f t)
 alike-near zero t h g =
-    alike_same (size_of 0 t) (rounded (inMetre * t) (2 ^ 1074)) (exactSize 0 t)
+    alike_same (size_of 0 t) (rounded (in_metre * t) (2 ^ 1074)) (exact_size 0 t)
     refl
-    (ap (λ q. rounded (inMetre * q) (2 ^ 1074)) (mul-one t))
+    (ap (λ q. rounded (in_metre * q) (2 ^ 1074)) (mul-one t))
     (few t 1074 (omega arith) (lit≤ tt))
 alike-near (suc k) t h g =
-    alike_same (size_of (suc k) t) (rounded (inMetre * (2 ^ 52 + t)) (2 ^ (1075 - suc k))) (exactSize (suc k) t)
+    alike_same (size_of (suc k) t) (rounded (in_metre * (2 ^ 52 + t)) (2 ^ (1075 - suc k))) (exact_size (suc k) t)
     (pick-false (lt-leb 1043 (suc k) g) _ _ ∙ pick-false (ne_eqb (suc k) 0 (omega arith)) _ _)
-    (shortened (2 ^ 52 + t) k 1074 (omega arith) ∙ ap (λ j. rounded (inMetre * (2 ^ 52 + t)) (2 ^ j)) (omega arith))
+    (shortened (2 ^ 52 + t) k 1074 (omega arith) ∙ ap (λ j. rounded (in_metre * (2 ^ 52 + t)) (2 ^ j)) (omega arith))
     (few (2 ^ 52 + t) (1075 - suc k) (omega arith) (omega arith))
 
-alike-far : (f t : ℕ) → 1043 ≤ f → Alike (size_of f t) (exactSize f t)
+alike-far : (f t : ℕ) → 1043 ≤ f → Alike (size_of f t) (exact_size f t)
 alike-far zero t g = absurd (let h : ⊥ = omega arith in h)
-alike-far (suc k) t g = alike-beyond (size_of (suc k) t) (exactSize (suc k) t) (pick_true (le-leb 1043 (suc k) g) _ _) (far t k 1074 (omega arith))
+alike-far (suc k) t g = alike-beyond (size_of (suc k) t) (exact_size (suc k) t) (pick_true (le-leb 1043 (suc k) g) _ _) (far t k 1074 (omega arith))
 
-alike : (f t : ℕ) → t < 2 ^ 52 → Alike (size_of f t) (exactSize f t)
+alike : (f t : ℕ) → t < 2 ^ 52 → Alike (size_of f t) (exact_size f t)
 alike f t h = elim (dec_lt f 1043) [ yes g ↦ alike-near f t h g | no g ↦ alike-far f t (omega arith) ]
 
 -- a coordinate is beyond the grid by its size alone
@@ -168,7 +168,7 @@ stands-fields : (s : Bool) (f t : ℕ) → t < 2 ^ 52 → f < 2047 → StandsFor
 stands-fields s f t h g =
     let a = alike f t h in
     let e = size_is s f t g in
-    let exact : beyond (millimetres (of_fields binary64 s f t)) ≡ ltb 1_000_000_000 (exactSize f t) = ap beyond e ∙ beyond-size s (exactSize f t) in
+    let exact : beyond (millimetres (of_fields binary64 s f t)) ≡ ltb 1_000_000_000 (exact_size f t) = ap beyond e ∙ beyond-size s (exact_size f t) in
     record {
       far = beyond-size s (size_of f t) ∙ a.beyond-both ∙ sym exact;
       near = λ b. ap (with_sign s) (a.same (sym exact ∙ b)) ∙ sym e;

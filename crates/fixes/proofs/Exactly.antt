@@ -15,7 +15,7 @@ use Rattle.ring.specs.Choices.{pick}
 use Rattle.ring.proofs.Pick.{pick_true, pick-false, neither_left, neither_right}
 use Rattle.fixes.specs.declared.Placed.{Placed}
 use Rattle.fixes.specs.declared.Placed.TheVariants.{OnGrid, BeyondGrid, NotFinite}
-use Rattle.fixes.specs.Nearest.{Nearest, NearestTo, with_sign, finite, inMetre}
+use Rattle.fixes.specs.Nearest.{Nearest, NearestTo, with_sign, finite, in_metre}
 use Rattle.fixes.specs.Millimetres.{rounded, millimetres, placed}
 use Rattle.fixes.proofs.Closest.{Closest, one-closest, rounded-closest}
 
@@ -75,13 +75,13 @@ signed true a d h =
 pub nearest-is : (x : Float) → finite x ≡ true → NearestTo x (millimetres x)
 nearest-is nan f = subst T (sym f) tt
 nearest-is (inf s) f = subst T (sym f) tt
-nearest-is (fin s m e) f = signed s (inMetre * m * numerator e) (denominator e) (down_pos e)
+nearest-is (fin s m e) f = signed s (in_metre * m * numerator e) (denominator e) (down_pos e)
 
 pub one-nearest : (x : Float) (m n : ℤ) → NearestTo x m → NearestTo x n → m ≡ n
 one-nearest nan m n h k = absurd h
 one-nearest (inf s) m n h k = absurd h
 one-nearest (fin s a e) m n h k =
-    let z = with_sign s (inMetre * a * numerator e) in
+    let z = with_sign s (in_metre * a * numerator e) in
     by_parts m n (one-closest (up z) (down z) (denominator e) (up m) (down m) (up n) (down n) (down_pos e) (closest-of z (denominator e) m h) (closest-of z (denominator e) n k))
 
 -- ---- what an answer tells

@@ -6,7 +6,7 @@ use Rattle.ring.specs.Grid.{beyond}
 use Rattle.ring.specs.Choices.{pick}
 use Rattle.fixes.specs.declared.Placed.{Placed}
 use Rattle.fixes.specs.declared.Placed.TheVariants.{OnGrid, BeyondGrid, NotFinite}
-use Rattle.fixes.specs.Nearest.{with_sign, finite, inMetre}
+use Rattle.fixes.specs.Nearest.{with_sign, finite, in_metre}
 
 -- m / d to the nearest whole number, by how twice the remainder compares with d, halves to even
 abbrev pub rounded : ℕ → ℕ → ℕ
@@ -16,7 +16,7 @@ rounded m d = pick (ltb (2 * (m % d)) d) (m / d) (pick (ltb d (2 * (m % d))) (su
 abbrev pub millimetres : Float → ℤ
 millimetres nan = pos 0
 millimetres (inf s) = pos 0
-millimetres (fin s m e) = with_sign s (rounded (inMetre * m * up e) (down e))
+millimetres (fin s m e) = with_sign s (rounded (in_metre * m * up e) (down e))
 
 -- both values are asked to be finite before either is asked to be on the grid
 abbrev pub placed : Float → Float → Placed
@@ -35,4 +35,4 @@ pub record StandsFor (v : ℤ) (x : Float) : Type 0 where
 abbrev pub size_of : ℕ → ℕ → ℕ
 size_of field fraction =
     pick (leb 1043 field) 1000000001
-    (pick (eqb field 0) (rounded (inMetre * fraction) (2 ^ 1074)) (rounded (inMetre * (2 ^ 52 + fraction)) (2 ^ (1075 - field))))
+    (pick (eqb field 0) (rounded (in_metre * fraction) (2 ^ 1074)) (rounded (in_metre * (2 ^ 52 + fraction)) (2 ^ (1075 - field))))

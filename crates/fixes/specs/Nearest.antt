@@ -21,11 +21,11 @@ finite (inf s) = false
 finite (fin s m e) = true
 
 -- how many millimetres a metre has
-abbrev pub inMetre : ℕ
-inMetre = 1000
+abbrev pub in_metre : ℕ
+in_metre = 1000
 
 -- n millimetres are nearest to a double of metres
 abbrev pub NearestTo : Float → ℤ → Type 0
 NearestTo nan n = ⊥
 NearestTo (inf s) n = ⊥
-NearestTo (fin s m e) n = Nearest (with_sign s (inMetre * m * up e)) (down e) n
+NearestTo (fin s m e) n = Nearest (with_sign s (in_metre * m * up e)) (down e) n

@@ -10,28 +10,28 @@ use mathlib.Core.List.{List, [], ◌∷◌}
 use mathlib.Core.Logic.{◌⊎◌, inl, inr}
 use lib.IntN.{ℤ, pos, negsuc, ◌+ℤ◌, +ℤ_idl}
 use lib.ListN.{length, get_or}
-use Rattle.exact.specs.Sign.{eqZ}
+use Rattle.exact.specs.Sign.{eq_z}
 use Rattle.exact.proofs.Parts.{up, down}
 use Rattle.ring.specs.declared.Point.{Point}
 use Rattle.ring.specs.Grid.{point, beyond}
 use Rattle.ring.specs.Choices.{pick, count}
-use Rattle.ring.specs.Turns.{quarterTurns, winding}
+use Rattle.ring.specs.Turns.{quarter_turns, winding}
 use Rattle.ring.specs.Locate.{Place, lowest}
 use Rattle.ring.proofs.Quadrants.{turns-reverse}
 use Rattle.ring.proofs.Search.{lowest-none, lowest-is, lowest-over}
 use Rattle.ring.proofs.Settled.{off-ring}
 use Rattle.districts.specs.Counts.{sum_to}
 use Rattle.districts.specs.Lent.{beginning}
-use Rattle.districts.specs.Register.{Slot, unused, ring, Register, slot, inUse}
+use Rattle.districts.specs.Register.{Slot, unused, ring, Register, slot, in_use}
 use Rattle.districts.specs.Answers.{report, one}
 use Rattle.districts.proofs.Sums.{sum-zero}
 use Rattle.districts.proofs.Counting.{term-most}
 use Rattle.refusals.specs.Verdicts.{accept, verdict}
-use Rattle.register.specs.Sorting.{rests, winds, restsAt, liesTo, sorted, belongsTo, assigned}
+use Rattle.register.specs.Sorting.{rests, winds, rests_at, lies_to, sorted, belongs_to, assigned}
 use Rattle.register.proofs.Given.{answer-given, point-taken}
 use Rattle.refusals.proofs.Verdicts.{passes, passed-all}
 use Rattle.history.specs.Histories.{Call, empty, after}
-use Rattle.history.specs.Adding.{sumOver, slotWinding, Clear, ClearOf, SaidOne}
+use Rattle.history.specs.Adding.{sum_over, slot_winding, Clear, ClearOf, SaidOne}
 use Rattle.judging.proofs.Told.{used-below}
 use Rattle.history.proofs.Balanced.{balanced}
 use Rattle.history.proofs.Windings.{windings-add-up}
@@ -39,11 +39,11 @@ use Rattle.history.proofs.Windings.{windings-add-up}
 -- ---- off a ring
 
 -- on no edge of a slot, R is not on its border, and winds about it where its winding number is not 0
-no-border : (R : Point) (s : Slot) → Clear R s → rests (liesTo R s) ≡ false
+no-border : (R : Point) (s : Slot) → Clear R s → rests (lies_to R s) ≡ false
 no-border R unused free = refl
 no-border R (ring P) free = ap rests (off-ring P R free)
 
-winds-by : (R : Point) (s : Slot) → Clear R s → winds (liesTo R s) ≡ not (eqZ (slotWinding R s) (pos 0))
+winds-by : (R : Point) (s : Slot) → Clear R s → winds (lies_to R s) ≡ not (eq_z (slot_winding R s) (pos 0))
 winds-by R unused free = refl
 winds-by R (ring P) free = ap winds (off-ring P R free)
 
@@ -92,13 +92,13 @@ once u (inl e) n f = ap up (sym (times-one n) ∙ ap (times n) (sym e) ∙ f ∙
 once u (inr e) zero f = let clash : ◌≡◌ {A = ℕ} 0 1 = ap down (f ∙ e) in absurd (let none : ⊥ = omega arith in none)
 once u (inr e) (suc n) f = ap down (sym (times-minus n) ∙ ap (times (suc n)) (sym e) ∙ f ∙ e)
 
-module _ (w : Slot → ℤ) (u : ℤ) (other : eqZ u (pos 0) ≡ false) where
+module _ (w : Slot → ℤ) (u : ℤ) (other : eq_z u (pos 0) ≡ false) where
   abbrev hit : Slot → Bool
-  hit s = not (eqZ (w s) (pos 0))
+  hit s = not (eq_z (w s) (pos 0))
 
   -- numbers that are 0 or u add up to u for each that is not 0
-  sum-times : (l : List Slot) → ((d : ℕ) → (w (get_or l d unused) ≡ pos 0) ⊎ (w (get_or l d unused) ≡ u)) → sumOver w l ≡ times (sum_to (length l) (λ d. count (hit (get_or l d unused)))) u
-  unfolding sumOver sum_to times
+  sum-times : (l : List Slot) → ((d : ℕ) → (w (get_or l d unused) ≡ pos 0) ⊎ (w (get_or l d unused) ≡ u)) → sum_over w l ≡ times (sum_to (length l) (λ d. count (hit (get_or l d unused)))) u
+  unfolding sum_over sum_to times
   sum-times [] each = refl
   sum-times (s ∷ l) each =
       say (sum-times l (λ d. each (suc d))) (each 0) ∙ ap (λ n. times n u) (sym (sum-front (length l) (λ d. count (hit (get_or (s ∷ l) d unused)))))
@@ -106,38 +106,38 @@ module _ (w : Slot → ℤ) (u : ℤ) (other : eqZ u (pos 0) ≡ false) where
       rest : ℕ
       rest = sum_to (length l) (λ d. count (hit (get_or l d unused)))
 
-      say : sumOver w l ≡ times rest u → (w s ≡ pos 0) ⊎ (w s ≡ u) → w s +ℤ sumOver w l ≡ times (count (hit s) + rest) u
+      say : sum_over w l ≡ times rest u → (w s ≡ pos 0) ⊎ (w s ≡ u) → w s +ℤ sum_over w l ≡ times (count (hit s) + rest) u
       say others (inl e) =
-          let none : rest ≡ count (hit s) + rest = omega (arith, ap (λ z. count (not (eqZ z (pos 0)))) e) in
-          ap (λ z. z +ℤ sumOver w l) e ∙ +ℤ_idl (sumOver w l) ∙ others ∙ ap (λ n. times n u) none
+          let none : rest ≡ count (hit s) + rest = omega (arith, ap (λ z. count (not (eq_z z (pos 0)))) e) in
+          ap (λ z. z +ℤ sum_over w l) e ∙ +ℤ_idl (sum_over w l) ∙ others ∙ ap (λ n. times n u) none
       say others (inr e) =
-          let more : suc rest ≡ count (hit s) + rest = omega (arith, ap (λ z. count (not (eqZ z (pos 0)))) e ∙ ap (λ b. count (not b)) other) in
+          let more : suc rest ≡ count (hit s) + rest = omega (arith, ap (λ z. count (not (eq_z z (pos 0)))) e ∙ ap (λ b. count (not b)) other) in
           (λ t. e t +ℤ others t) ∙ ap (λ n. times n u) more
 
 -- ---- the report
 
-unit-other : (u : ℤ) → Once u → eqZ u (pos 0) ≡ false
-unit-other u (inl e) = ap (λ z. eqZ z (pos 0)) e
-unit-other u (inr e) = ap (λ z. eqZ z (pos 0)) e
+unit-other : (u : ℤ) → Once u → eq_z u (pos 0) ≡ false
+unit-other u (inl e) = ap (λ z. eq_z z (pos 0)) e
+unit-other u (inr e) = ap (λ z. eq_z z (pos 0)) e
 
 -- a winding number that is not 0 needs a ring
-winds-in-use : (R : Point) (s : Slot) (u : ℤ) → eqZ u (pos 0) ≡ false → slotWinding R s ≡ u → inUse s ≡ true
-winds-in-use R unused u other e = let clash : ◌≡◌ {A = ℕ} 1 0 = ap (λ z. pick (eqZ z (pos 0)) 1 0) e ∙ ap (λ b. pick b 1 0) other in absurd (let none : ⊥ = omega arith in none)
+winds-in-use : (R : Point) (s : Slot) (u : ℤ) → eq_z u (pos 0) ≡ false → slot_winding R s ≡ u → in_use s ≡ true
+winds-in-use R unused u other e = let clash : ◌≡◌ {A = ℕ} 1 0 = ap (λ z. pick (eq_z z (pos 0)) 1 0) e ∙ ap (λ b. pick b 1 0) other in absurd (let none : ⊥ = omega arith in none)
 winds-in-use R (ring P) u other e = refl
 
-module _ (g : Register) (r : ℕ) (x y u : ℤ) (full : length g.districts ≡ 64) (sums : sumOver (slotWinding (point x y)) g.districts ≡ slotWinding (point x y) g.outline)
+module _ (g : Register) (r : ℕ) (x y u : ℤ) (full : length g.districts ≡ 64) (sums : sum_over (slot_winding (point x y)) g.districts ≡ slot_winding (point x y) g.outline)
     (unit : Once u) (across : beyond x ≡ false) (up-too : beyond y ≡ false) (free : ClearOf g (point x y))
-    (whole : slotWinding (point x y) g.outline ≡ u) (each : (d : ℕ) → (slotWinding (point x y) (slot g d) ≡ pos 0) ⊎ (slotWinding (point x y) (slot g d) ≡ u)) where
+    (whole : slot_winding (point x y) g.outline ≡ u) (each : (d : ℕ) → (slot_winding (point x y) (slot g d) ≡ pos 0) ⊎ (slot_winding (point x y) (slot g d) ≡ u)) where
   R : Point
   R = point x y
 
-  other : eqZ u (pos 0) ≡ false
+  other : eq_z u (pos 0) ≡ false
   other = unit-other u unit
 
   about : ℕ → Bool
-  about d = winds (liesTo (point x y) (slot g d))
+  about d = winds (lies_to (point x y) (slot g d))
 
-  about-is : (d : ℕ) → about d ≡ not (eqZ (slotWinding (point x y) (slot g d)) (pos 0))
+  about-is : (d : ℕ) → about d ≡ not (eq_z (slot_winding (point x y) (slot g d)) (pos 0))
   unfolding about
   about-is d = winds-by (point x y) (slot g d) (free.districts d)
 
@@ -145,8 +145,8 @@ module _ (g : Register) (r : ℕ) (x y u : ℤ) (full : length g.districts ≡ 6
   how-many : sum_to 64 (λ d. count (about d)) ≡ 1
   how-many = once u unit _ (
       (λ t. times (sum_to 64 (λ d. count (about-is d t))) u)
-      ∙ ap (λ n. times (sum_to n (λ d. count (not (eqZ (slotWinding (point x y) (slot g d)) (pos 0))))) u) (sym full)
-      ∙ sym (sum-times (slotWinding (point x y)) u other g.districts each)
+      ∙ ap (λ n. times (sum_to n (λ d. count (not (eq_z (slot_winding (point x y) (slot g d)) (pos 0))))) u) (sym full)
+      ∙ sym (sum-times (slot_winding (point x y)) u other g.districts each)
       ∙ sums
       ∙ whole)
 
@@ -167,19 +167,19 @@ module _ (g : Register) (r : ℕ) (x y u : ℤ) (full : length g.districts ≡ 6
   its = (lowest-is about 64 0 (lowest about 64 0) refl below).0
 
   -- a district that is wound about has winding number u, and one with winding number u is wound about
-  wound : (d : ℕ) → about d ≡ true → slotWinding (point x y) (slot g d) ≡ u
+  wound : (d : ℕ) → about d ≡ true → slot_winding (point x y) (slot g d) ≡ u
   wound d e = say (each d)
     where
-      say : (slotWinding (point x y) (slot g d) ≡ pos 0) ⊎ (slotWinding (point x y) (slot g d) ≡ u) → slotWinding (point x y) (slot g d) ≡ u
+      say : (slot_winding (point x y) (slot g d) ≡ pos 0) ⊎ (slot_winding (point x y) (slot g d) ≡ u) → slot_winding (point x y) (slot g d) ≡ u
       say (inl none) =
-          let clash : ◌≡◌ {A = ℕ} 0 1 = ap (λ b. pick b 1 0) (sym (about-is d ∙ ap (λ z. not (eqZ z (pos 0))) none) ∙ e) in
+          let clash : ◌≡◌ {A = ℕ} 0 1 = ap (λ b. pick b 1 0) (sym (about-is d ∙ ap (λ z. not (eq_z z (pos 0))) none) ∙ e) in
           absurd (let f : ⊥ = omega arith in f)
       say (inr some) = some
 
-  winding-about : (d : ℕ) → slotWinding (point x y) (slot g d) ≡ u → about d ≡ true
-  winding-about d e = about-is d ∙ ap (λ z. not (eqZ z (pos 0))) e ∙ ap not other
+  winding-about : (d : ℕ) → slot_winding (point x y) (slot g d) ≡ u → about d ≡ true
+  winding-about d e = about-is d ∙ ap (λ z. not (eq_z z (pos 0))) e ∙ ap not other
 
-  alone : (e : ℕ) → slotWinding (point x y) (slot g e) ≡ u → e ≡ which
+  alone : (e : ℕ) → slot_winding (point x y) (slot g e) ≡ u → e ≡ which
   alone e f = elim (ℕ_discrete e which) [
     | yes same ↦ same
     | no differ ↦ elim (dec_lt e which) [
@@ -191,16 +191,16 @@ module _ (g : Register) (r : ℕ) (x y u : ℤ) (full : length g.districts ≡ 6
       twice : (i j : ℕ) → i < j → j < 64 → about i ≡ true → about j ≡ true → ⊥
       twice i j h k p q = let two = two-terms 64 (λ d. count (about d)) i j h k (ap count p) (ap count q) in omega (arith, two, how-many)
 
-  clear : (d : ℕ) → rests (liesTo (point x y) (slot g d)) ≡ false
+  clear : (d : ℕ) → rests (lies_to (point x y) (slot g d)) ≡ false
   clear d = no-border (point x y) (slot g d) (free.districts d)
 
   -- the report is answered by where its point belongs
-  belongs : belongsTo g (point x y) ≡ one which
-  unfolding belongsTo about which
+  belongs : belongs_to g (point x y) ≡ one which
+  unfolding belongs_to about which
   belongs =
-      let place : ℕ → Place = λ d. liesTo (point x y) (slot g d) in
+      let place : ℕ → Place = λ d. lies_to (point x y) (slot g d) in
       let border = lowest-none (λ d. rests (place d)) 64 0 (λ d least most. clear d) in
-      (λ t. sorted (border t) (restsAt (place (border t))) (how-many t) (lowest (λ d. winds (place d)) 64 0))
+      (λ t. sorted (border t) (rests_at (place (border t))) (how-many t) (lowest (λ d. winds (place d)) 64 0))
 
   begun : verdict (beginning true g) ≡ accept
   begun = passes 1 _ _ refl ∙ passes 2 _ _ (ap not (winds-in-use (point x y) g.outline u other whole)) ∙ passed-all
@@ -213,8 +213,8 @@ module _ (g : Register) (r : ℕ) (x y u : ℤ) (full : length g.districts ≡ 6
   }
 
 pub one-district : (cs : List Call) (r : ℕ) (x y u : ℤ) → Once u → beyond x ≡ false → beyond y ≡ false → ClearOf (after empty cs) (point x y)
-    → slotWinding (point x y) (after empty cs).outline ≡ u
-    → ((d : ℕ) → (slotWinding (point x y) (slot (after empty cs) d) ≡ pos 0) ⊎ (slotWinding (point x y) (slot (after empty cs) d) ≡ u))
+    → slot_winding (point x y) (after empty cs).outline ≡ u
+    → ((d : ℕ) → (slot_winding (point x y) (slot (after empty cs) d) ≡ pos 0) ⊎ (slot_winding (point x y) (slot (after empty cs) d) ≡ u))
     → SaidOne (assigned true (after empty cs) r x y) (after empty cs) r (point x y) u
 one-district cs r x y u unit across up-too free whole each =
-    answered (after empty cs) r x y u (balanced (quarterTurns (point x y)) (turns-reverse (point x y)) cs).full (windings-add-up cs (point x y) free) unit across up-too free whole each
+    answered (after empty cs) r x y u (balanced (quarter_turns (point x y)) (turns-reverse (point x y)) cs).full (windings-add-up cs (point x y) free) unit across up-too free whole each

@@ -11,45 +11,45 @@ use lib.ListN.{length, set, length-set}
 use borrow.Author.Tests.{ne_eqb, not-true}
 use Rattle.ring.specs.Grid.{vertices}
 use Rattle.ring.specs.Choices.{pick}
-use Rattle.ring.specs.Rings.{Weight, Antisymmetric, ringSum}
+use Rattle.ring.specs.Rings.{Weight, Antisymmetric, ring_sum}
 use Rattle.ring.proofs.Pick.{pick-false}
 use Rattle.ring.proofs.Search.{lowest-is}
-use Rattle.districts.specs.Counts.{listTo}
-use Rattle.districts.specs.Register.{Slot, unused, ring, Register, slot, inUse, verticesOf}
+use Rattle.districts.specs.Counts.{list_to}
+use Rattle.districts.specs.Register.{Slot, unused, ring, Register, slot, in_use, vertices_of}
 use Rattle.districts.proofs.Meaning.{list-long}
 use Rattle.refusals.specs.Verdicts.{accept}
 use Rattle.register.specs.Founding.{founded}
-use Rattle.judging.specs.Splitting.{lowestUnused}
+use Rattle.judging.specs.Splitting.{lowest_unused}
 use Rattle.changes.specs.Afterwards.{split, merge}
 use Rattle.judging.proofs.Sums.{split-sum, merge-sum}
 use Rattle.history.specs.Histories.{Call, founding, splitting, merging, reporting, empty, judged, made, after}
-use Rattle.history.specs.Adding.{sumOver, slotSum}
+use Rattle.history.specs.Adding.{sum_over, slot_sum}
 use Rattle.history.proofs.Every.{every}
 use Rattle.judging.proofs.Told.{used-ring, unused-slot, used-below, split-told, merge-told}
 use Rattle.history.proofs.Slots.{sum-none, two-set}
 
 pub record Balanced (f : Weight) (g : Register) : Type 0 where
   pub full : length g.districts ≡ 64
-  pub sums : sumOver (slotSum f) g.districts ≡ slotSum f g.outline
+  pub sums : sum_over (slot_sum f) g.districts ≡ slot_sum f g.outline
 
 -- the number that a split takes is unused
-pub new-unused : (g : Register) → lowestUnused g < 64 → slot g (lowestUnused g) ≡ unused
-unfolding lowestUnused
-new-unused g h = unused-slot (slot g (lowestUnused g)) (not-true _ (lowest-is (λ d. not (inUse (slot g d))) 64 0 (lowestUnused g) refl h).0)
+pub new-unused : (g : Register) → lowest_unused g < 64 → slot g (lowest_unused g) ≡ unused
+unfolding lowest_unused
+new-unused g h = unused-slot (slot g (lowest_unused g)) (not-true _ (lowest-is (λ d. not (in_use (slot g d))) 64 0 (lowest_unused g) refl h).0)
 
 module _ (f : Weight) (anti : Antisymmetric f) where
   abbrev sum : Slot → ℤ
-  sum = slotSum f
+  sum = slot_sum f
 
   empty-balanced : Balanced f empty
   unfolding empty
   empty-balanced = record { full = list-long 64 (λ d. unused); sums = sum-none sum refl 64 (λ d. unused) (λ i h. refl) }
 
   founded-balanced : (xs : List ℤ) → Balanced f (founded xs)
-  unfolding founded listTo sumOver
+  unfolding founded list_to sum_over
   founded-balanced xs = record {
     full = list-long 64 (λ d. only d);
-    sums = ap (λ z. ringSum f (vertices xs) +ℤ z) (sum-none sum refl 63 (λ i. only (suc i)) (λ i h. pick-false (ne_eqb (suc i) 0 (λ (e : suc i ≡ 0). omega arith)) _ _)) ∙ +ℤ_idr (ringSum f (vertices xs));
+    sums = ap (λ z. ring_sum f (vertices xs) +ℤ z) (sum-none sum refl 63 (λ i. only (suc i)) (λ i h. pick-false (ne_eqb (suc i) 0 (λ (e : suc i ≡ 0). omega arith)) _ _)) ∙ +ℤ_idr (ring_sum f (vertices xs));
   }
     where
       only : ℕ → Slot
@@ -59,21 +59,21 @@ module _ (f : Weight) (anti : Antisymmetric f) where
   unfolding judged split
   split-balanced g d i j path b fine =
       let t = split-told true g d i j path fine in
-      let P = verticesOf (slot g d) in
+      let P = vertices_of (slot g d) in
       let its = used-ring (slot g d) t.used in
       let free = new-unused g t.number in
       let below = used-below g d t.used in
-      let new : lowestUnused g < length g.districts = omega (arith, b.full, t.number) in
+      let new : lowest_unused g < length g.districts = omega (arith, b.full, t.number) in
       record {
-        full = length-set (set g.districts d _) (lowestUnused g) _ ∙ length-set g.districts d _ ∙ b.full;
+        full = length-set (set g.districts d _) (lowest_unused g) _ ∙ length-set g.districts d _ ∙ b.full;
         sums =
-            two-set sum g.districts d (lowestUnused g) _ _ below new
+            two-set sum g.districts d (lowest_unused g) _ _ below new
             (λ e. clash (slot g d) (sym (ap (slot g) e) ∙ free) its)
-            (split-sum f anti P (vertices path) i j t.lower t.other t.differ ∙ sym (+ℤ_idr (ringSum f P)) ∙ (λ u. sum (sym its u) +ℤ sum (sym free u)))
+            (split-sum f anti P (vertices path) i j t.lower t.other t.differ ∙ sym (+ℤ_idr (ring_sum f P)) ∙ (λ u. sum (sym its u) +ℤ sum (sym free u)))
             ∙ b.sums;
       }
     where
-      clash : (s : Slot) → s ≡ unused → s ≡ ring (verticesOf s) → ⊥
+      clash : (s : Slot) → s ≡ unused → s ≡ ring (vertices_of s) → ⊥
       clash s e h = let same : ◌≡◌ {A = ℕ} 0 1 = ap pegged (sym e ∙ h) in omega arith
         where
           pegged : Slot → ℕ
@@ -84,8 +84,8 @@ module _ (f : Weight) (anti : Antisymmetric f) where
   unfolding judged merge
   merge-balanced g A a B b k bal fine =
       let t = merge-told true g A a B b k fine in
-      let P = verticesOf (slot g A) in
-      let Q = verticesOf (slot g B) in
+      let P = vertices_of (slot g A) in
+      let Q = vertices_of (slot g B) in
       let its = used-ring (slot g A) t.kept in
       let theirs = used-ring (slot g B) t.gone in
       record {
@@ -107,5 +107,5 @@ module _ (f : Weight) (anti : Antisymmetric f) where
   balanced cs = every (Balanced f) keeps empty empty-balanced cs
 
 -- demand 3, for every antisymmetric weight
-pub districts-add-up : (f : Weight) → Antisymmetric f → (cs : List Call) → sumOver (slotSum f) (after empty cs).districts ≡ slotSum f (after empty cs).outline
+pub districts-add-up : (f : Weight) → Antisymmetric f → (cs : List Call) → sum_over (slot_sum f) (after empty cs).districts ≡ slot_sum f (after empty cs).outline
 districts-add-up f anti cs = (balanced f anti cs).sums

@@ -11,11 +11,11 @@ use lib.ListN.{length, set, length-set, length-append, length-reverse, get_or-eq
 use lib.Seq.{get_or-set_same, get_or-set_other}
 use borrow.Author.Tests.{eqb-false, ltb-false, ne_eqb}
 use Rattle.ring.specs.declared.Point.{Point}
-use Rattle.ring.specs.Grid.{vertices, noRing, someBeyond}
+use Rattle.ring.specs.Grid.{vertices, no_ring, some_beyond}
 use Rattle.ring.specs.Choices.{pick}
 use Rattle.ring.proofs.Pick.{pick-false, neither_left, neither_right}
 use Rattle.districts.specs.Counts.{sum_to}
-use Rattle.districts.specs.Register.{Slot, unused, ring, Register, slot, inUse, verticesOf}
+use Rattle.districts.specs.Register.{Slot, unused, ring, Register, slot, in_use, vertices_of}
 use Rattle.districts.proofs.Counting.{term-most}
 use Rattle.districts.proofs.Meaning.{list_at, list-past, list-long}
 use Rattle.districts.proofs.Sums.{sum_same, sum-zero}
@@ -23,10 +23,10 @@ use Rattle.refusals.specs.Verdicts.{accept}
 use Rattle.refusals.proofs.Verdicts.{accepted}
 use Rattle.register.specs.Founding.{founded}
 use Rattle.room.specs.Runs.{run, steps}
-use Rattle.room.specs.Writing.{numbersOf}
+use Rattle.room.specs.Writing.{numbers_of}
 use Rattle.room.proofs.Parts.{both-on-grid, sum-but-one}
 use Rattle.room.proofs.Written.{run_length, numbers-vertices}
-use Rattle.judging.specs.Splitting.{pieceOne, pieceTwo, lowestUnused, vertexCount}
+use Rattle.judging.specs.Splitting.{piece_one, piece_two, lowest_unused, vertex_count}
 use Rattle.changes.specs.Afterwards.{split, merge}
 use Rattle.judging.specs.Merging.{merged}
 use Rattle.changes.proofs.Grids.{run-on-grid, reverse-on-grid}
@@ -42,11 +42,11 @@ use Rattle.history.proofs.Alone.{sum-front}
 
 -- how many vertices a slot has
 abbrev many : Slot → ℕ
-many s = length (verticesOf s)
+many s = length (vertices_of s)
 
 -- a ring of a district has at most as many vertices as all together
-ring-most : (g : Register) (d : ℕ) → length g.districts ≡ 64 → many (slot g d) ≤ vertexCount g
-unfolding vertexCount
+ring-most : (g : Register) (d : ℕ) → length g.districts ≡ 64 → many (slot g d) ≤ vertex_count g
+unfolding vertex_count
 ring-most g d full = elim (dec_lt d 64) [
   | yes less ↦ term-most (λ k. many (slot g k)) 64 d less
   | no more ↦
@@ -75,8 +75,8 @@ module _ (g : Register) (d e : ℕ) (s t : Slot) (full : length g.districts ≡ 
   one : Register
   one = record { outline = g.outline; districts = set g.districts d s }
 
-  counts : vertexCount changed + (many (slot g d) + many (slot g e)) ≡ vertexCount g + (many s + many t)
-  unfolding changed one vertexCount
+  counts : vertex_count changed + (many (slot g d) + many (slot g e)) ≡ vertex_count g + (many s + many t)
+  unfolding changed one vertex_count
   counts =
       let first : sum_to 64 (λ k. many (slot one k)) + many (slot g d) ≡ sum_to 64 (λ k. many (slot g k)) + many (slot one d) =
       sum-but-one (λ k. many (slot one k)) (λ k. many (slot g k)) 64 d below (λ k h f. ap many (get_or-set_other g.districts d k s unused f)) in
@@ -91,14 +91,14 @@ module _ (g : Register) (d e : ℕ) (s t : Slot) (full : length g.districts ≡ 
   unfolding changed
   all-long = length-set (set g.districts d s) e t ∙ length-set g.districts d s ∙ full
 
-  first-most : vertexCount changed ≤ 2048 → many s ≤ 2048
+  first-most : vertex_count changed ≤ 2048 → many s ≤ 2048
   first-most most = let its = ring-most changed d all-long in omega (arith, most, its, ap many at_first)
 
-  second-most : vertexCount changed ≤ 2048 → many t ≤ 2048
+  second-most : vertex_count changed ≤ 2048 → many t ≤ 2048
   second-most most = let its = ring-most changed e all-long in omega (arith, most, its, ap many at_second)
 
   -- the limits are kept where the new slots keep them
-  changed-within : Within g → inUse g.outline ≡ true → Allowed s → Allowed t → vertexCount changed ≤ 2048 → Within changed
+  changed-within : Within g → in_use g.outline ≡ true → Allowed s → Allowed t → vertex_count changed ≤ 2048 → Within changed
   unfolding changed
   changed-within w outlined first second most = record {
     full = all-long;
@@ -116,18 +116,18 @@ module _ (g : Register) (d e : ℕ) (s t : Slot) (full : length g.districts ≡ 
 
 -- ---- coordinates of the grid
 
-path-on-grid : (path : List ℤ) → length path % 2 ≡ 0 → someBeyond path ≡ false → someBeyond (numbersOf (vertices path)) ≡ false
-path-on-grid path even e = ap someBeyond (numbers-vertices path (length path / 2) (omega (arith, even))) ∙ e
+path-on-grid : (path : List ℤ) → length path % 2 ≡ 0 → some_beyond path ≡ false → some_beyond (numbers_of (vertices path)) ≡ false
+path-on-grid path even e = ap some_beyond (numbers-vertices path (length path / 2) (omega (arith, even))) ∙ e
 
-used-on-grid : (s : Slot) → Allowed s → someBeyond (numbersOf (verticesOf s)) ≡ false
-unfolding numbersOf
+used-on-grid : (s : Slot) → Allowed s → some_beyond (numbers_of (vertices_of s)) ≡ false
+unfolding numbers_of
 used-on-grid unused a = refl
 used-on-grid (ring P) a = a.2
 
 -- ---- the calls
 
 empty-within : Within empty
-unfolding empty vertexCount
+unfolding empty vertex_count
 empty-within = record {
   full = list-long 64 (λ d. unused);
   outline = tt;
@@ -144,8 +144,8 @@ empty-within = record {
 
 -- what the acceptance of a founding tells
 record Foundable (xs : List ℤ) : Type 0 where
-  whole : noRing (length xs) (length xs / 2) ≡ false
-  grid : someBeyond xs ≡ false
+  whole : no_ring (length xs) (length xs / 2) ≡ false
+  grid : some_beyond xs ≡ false
 
 found-told : (g : Register) (xs : List ℤ) → judged g (founding xs) ≡ accept → Foundable xs
 unfolding judged
@@ -154,7 +154,7 @@ found-told g xs fine =
     record { whole = t4.0; grid = (accepted 5 _ _ t4.1).0 }
 
 founded-within : (xs : List ℤ) → Foundable xs → Within (founded xs)
-unfolding founded vertexCount
+unfolding founded vertex_count
 founded-within xs f = record {
   full = list-long 64 only;
   outline = allowed;
@@ -200,24 +200,24 @@ split-within : (g : Register) (d i j : ℕ) (path : List ℤ) → Within g → j
 unfolding judged split changed
 split-within g d i j path w fine =
     let t = split-told true g d i j path fine in
-    let P = verticesOf (slot g d) in
+    let P = vertices_of (slot g d) in
     let W = vertices path in
     let k = length path / 2 in
-    let new = lowestUnused g in
+    let new = lowest_unused g in
     let free = new-unused g t.number in
     let below : d < 64 = subst (λ (n : ℕ). d < n) w.full (used-below g d t.used) in
     let long₁ = piece-long P (reverse W) i j k (length-reverse W ∙ vertices-half path) in
     let long₂ = piece-long P W j i k (vertices-half path) in
     let round = steps-round (length P) i j t.lower t.other t.differ in
-    let differ : new ≡ d → ⊥ = λ e. clash (ap inUse (sym free ∙ ap (slot g) e) ∙ t.used) in
-    let all = counts g d new (ring (pieceOne P i j W)) (ring (pieceTwo P i j W)) w.full below t.number differ in
-    let none : length (verticesOf (slot g new)) ≡ 0 = ap many free in
-    let room : vertexCount (split g d i j W) ≤ 2048 = omega (arith, all, none, long₁, long₂, round, t.room, t.even) in
+    let differ : new ≡ d → ⊥ = λ e. clash (ap in_use (sym free ∙ ap (slot g) e) ∙ t.used) in
+    let all = counts g d new (ring (piece_one P i j W)) (ring (piece_two P i j W)) w.full below t.number differ in
+    let none : length (vertices_of (slot g new)) ≡ 0 = ap many free in
+    let room : vertex_count (split g d i j W) ≤ 2048 = omega (arith, all, none, long₁, long₂, round, t.room, t.even) in
     let on-grid = used-on-grid (slot g d) (w.rings d) in
     let path-grid = path-on-grid path t.even t.grid in
-    let most₁ = first-most g d new (ring (pieceOne P i j W)) (ring (pieceTwo P i j W)) w.full below t.number differ room in
-    let most₂ = second-most g d new (ring (pieceOne P i j W)) (ring (pieceTwo P i j W)) w.full below t.number differ room in
-    changed-within g d new (ring (pieceOne P i j W)) (ring (pieceTwo P i j W)) w.full below t.number differ w t.outlined
+    let most₁ = first-most g d new (ring (piece_one P i j W)) (ring (piece_two P i j W)) w.full below t.number differ room in
+    let most₂ = second-most g d new (ring (piece_one P i j W)) (ring (piece_two P i j W)) w.full below t.number differ room in
+    changed-within g d new (ring (piece_one P i j W)) (ring (piece_two P i j W)) w.full below t.number differ w t.outlined
     (t.first, most₁, both-on-grid _ _ (run-on-grid P on-grid i _) (reverse-on-grid W path-grid))
     (t.second, most₂, both-on-grid _ _ (run-on-grid P on-grid j _) path-grid)
     room
@@ -229,14 +229,14 @@ merge-within : (g : Register) (A a B b k : ℕ) → Within g → judged g (mergi
 unfolding judged merge changed
 merge-within g A a B b k w fine =
     let t = merge-told true g A a B b k fine in
-    let P = verticesOf (slot g A) in
-    let Q = verticesOf (slot g B) in
+    let P = vertices_of (slot g A) in
+    let Q = vertices_of (slot g B) in
     let first : A < 64 = subst (λ (n : ℕ). A < n) w.full (used-below g A t.kept) in
     let second : B < 64 = subst (λ (n : ℕ). B < n) w.full (used-below g B t.gone) in
     let differ : B ≡ A → ⊥ = λ e. t.differ (sym e) in
     let all = counts g A B (ring (merged P a Q b k)) unused w.full first second differ in
     let long = merged-length P Q a b (length P) (length Q) k refl refl t.fewer t.also in
-    let room : vertexCount (merge g A a B b k) ≤ 2048 = omega (arith, all, long, w.most) in
+    let room : vertex_count (merge g A a B b k) ≤ 2048 = omega (arith, all, long, w.most) in
     let most = first-most g A B (ring (merged P a Q b k)) unused w.full first second differ room in
     changed-within g A B (ring (merged P a Q b k)) unused w.full first second differ w t.outlined
     (t.enough, most, both-on-grid _ _ (run-on-grid P (used-on-grid (slot g A) (w.rings A)) _ _) (run-on-grid Q (used-on-grid (slot g B) (w.rings B)) _ _))

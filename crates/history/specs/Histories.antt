@@ -1,15 +1,15 @@
 -- The rules' calls as values, and the register that a list of them makes of another. Assumes nothing.
 use Rattle.std.specs.Prelude.{ℕ, true, List, [], ◌∷◌, ℤ}
 use Rattle.ring.specs.Grid.{vertices}
-use Rattle.districts.specs.Counts.{listTo}
+use Rattle.districts.specs.Counts.{list_to}
 use Rattle.districts.specs.Register.{unused, Register, numbers}
 use Rattle.refusals.specs.Verdicts.{Verdict, accept, refuse, verdict}
-use Rattle.register.specs.Founding.{foundTests, founded}
+use Rattle.register.specs.Founding.{found_tests, founded}
 use Rattle.register.specs.declared.Position.{Position}
-use Rattle.register.specs.Placing.{placeTests}
-use Rattle.judging.specs.Splitting.{splitTests}
+use Rattle.register.specs.Placing.{place_tests}
+use Rattle.judging.specs.Splitting.{split_tests}
 use Rattle.changes.specs.Afterwards.{split, merge}
-use Rattle.judging.specs.Merging.{mergeTests}
+use Rattle.judging.specs.Merging.{merge_tests}
 
 -- a call, with all that its caller hands over
 pub data Call : Type 0 where
@@ -20,14 +20,14 @@ pub data Call : Type 0 where
 
 -- the register before any call
 unfoldable pub empty : Register
-empty = record { outline = unused; districts = listTo numbers (λ d. unused) }
+empty = record { outline = unused; districts = list_to numbers (λ d. unused) }
 
 -- which refusal a call meets, if any; the register is well-formed
 unfoldable pub judged : Register → Call → Verdict
-judged g (founding xs) = verdict (foundTests true g xs)
-judged g (splitting d i j path) = verdict (splitTests true g d i j path)
-judged g (merging A a B b k) = verdict (mergeTests true g A a B b k)
-judged g (reporting r p) = verdict (placeTests true g p)
+judged g (founding xs) = verdict (found_tests true g xs)
+judged g (splitting d i j path) = verdict (split_tests true g d i j path)
+judged g (merging A a B b k) = verdict (merge_tests true g A a B b k)
+judged g (reporting r p) = verdict (place_tests true g p)
 
 -- what an accepted call makes of the register
 unfoldable pub made : Register → Call → Register

@@ -6,7 +6,7 @@ use Rattle.register.specs.declared.Founded.{Founded}
 use Rattle.register.specs.Calls.{FoundBy}
 use Rattle.districts.specs.Lent.{Lists, formed, means}
 use Rattle.register.specs.declared.Position.{Position}
-use Rattle.register.specs.Placing.{assignedAt}
+use Rattle.register.specs.Placing.{assigned_at}
 use Rattle.changes.specs.declared.Changed.{Changed}
 use Rattle.changes.specs.Calls.{SplitBy, MergeBy}
 use Rattle.history.specs.Histories as Histories
@@ -26,18 +26,18 @@ call_of (merging A a B b k r m) = Histories.merging A a B b k
 call_of (reporting r p a) = Histories.reporting r p
 
 -- the lists after a turn
-abbrev pub leftBy : Lists → Turn → Lists
-leftBy l (founding xs r m) = m
-leftBy l (splitting d i j path r m) = m
-leftBy l (merging A a B b k r m) = m
-leftBy l (reporting r p a) = l
+abbrev pub left_by : Lists → Turn → Lists
+left_by l (founding xs r m) = m
+left_by l (splitting d i j path r m) = m
+left_by l (merging A a B b k r m) = m
+left_by l (reporting r p a) = l
 
 -- the turn is as the call promises: `register::found`, `changes::split`, `changes::merge`, `positions::assign_at`
 abbrev pub Promised : Lists → Turn → Type 0
 Promised l (founding xs r m) = FoundBy r xs l m
 Promised l (splitting d i j path r m) = SplitBy r d i j path l m
 Promised l (merging A a B b k r m) = MergeBy r A a B b k l m
-Promised l (reporting r p a) = answer_of a ≡ assignedAt (formed l) (means l) r p
+Promised l (reporting r p a) = answer_of a ≡ assigned_at (formed l) (means l) r p
 
 unfoldable pub calls : List Turn → List Call
 calls [] = []
@@ -46,12 +46,12 @@ calls (t ∷ ts) = call_of t ∷ calls ts
 -- the lists after all turns
 unfoldable pub last : Lists → List Turn → Lists
 last l [] = l
-last l (t ∷ ts) = last (leftBy l t) ts
+last l (t ∷ ts) = last (left_by l t) ts
 
 -- every turn is as promised
 unfoldable pub Ran : Lists → List Turn → Type 0
 Ran l [] = Unit
-Ran l (t ∷ ts) = Promised l t × Ran (leftBy l t) ts
+Ran l (t ∷ ts) = Promised l t × Ran (left_by l t) ts
 
 -- the lists hold an empty register
 abbrev pub Fresh : Lists → Type 0

@@ -10,7 +10,7 @@ use lib.ListN.{length, get_or, set, length-set}
 use lib.Seq.{get_or-set_same, get_or-set_other}
 use lib.Signed.{lt_z, le_z}
 use Rattle.columns.specs.Walk.{over, under}
-use Rattle.districts.specs.Lists.{firstPlace, size}
+use Rattle.districts.specs.Lists.{first_place, size}
 use Rattle.districts.proofs.Lent.{part_length}
 use Rattle.index.specs.Axis.{Held, run, From, UpTo, low_of, high_of, within, Bounded, RunBeside}
 use Rattle.index.proofs.Order.{not-le, le_trans, lt-le-trans, le_lt_trans}
@@ -67,7 +67,7 @@ run-order column l h some from to = le_trans l (get_or column 0 (pos 0)) h (from
 
 module _ (column : List ℤ) (runs : List ℕ) (held : Held column runs) (d : ℕ) (few : d < 64) (used : 0 < size runs d) (v : ℤ) where
   run_long : length (run column runs d) ≡ size runs d
-  run_long = part_length column (firstPlace runs d) (size runs d) (let f = held.fits d few used in let l = held.long in omega arith)
+  run_long = part_length column (first_place runs d) (size runs d) (let f = held.fits d few used in let l = held.long in omega arith)
 
   pub above-all : (l : ℤ) → From (run column runs d) l → lt_z v l ≡ true → RunBeside column runs d v
   above-all l from e = over (λ j k. lt-le-trans v l (get_or (run column runs d) (0 + j) (pos 0)) e (from (0 + j) (omega (arith, run_long))))

@@ -98,8 +98,8 @@ gap-short (negsuc a) (pos b) f g = omega arith
 gap-short (negsuc a) (negsuc b) f g = omega (arith, g.sfits)
 
 module _ (v l : ℤ) (e : le_z l v ≡ true) where
-  pub far-nonNeg : T (non_neg (v -ℤ l))
-  far-nonNeg = subst (λ z. T (non_neg z)) (sym (gap_is v l e)) tt
+  pub far-non_neg : T (non_neg (v -ℤ l))
+  far-non_neg = subst (λ z. T (non_neg z)) (sym (gap_is v l e)) tt
 
   pub far-grows : (w : ℤ) → le_z v w ≡ true → nat_abs (v -ℤ l) ≤ nat_abs (w -ℤ l)
   far-grows w f =
@@ -127,10 +127,10 @@ higher-ge a b = go (lt_z a b) refl
     go false e = (le_refl a, not-lt a b e)
 
 -- the other way round
-abbrev pub geZ : ℤ → ℤ → Bool
-geZ a b = le_z b a
+abbrev pub ge_z : ℤ → ℤ → Bool
+ge_z a b = le_z b a
 
-pub ge_trans : (a b c : ℤ) → geZ a b ≡ true → geZ b c ≡ true → geZ a c ≡ true
+pub ge_trans : (a b c : ℤ) → ge_z a b ≡ true → ge_z b c ≡ true → ge_z a c ≡ true
 ge_trans a b c e f = le_trans c b a f e
 
 -- a bound of the first j numbers of a column, in either order

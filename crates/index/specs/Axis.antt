@@ -4,18 +4,18 @@ use Rattle.std.specs.Prelude.{ℕ, ◌+◌, ◌-◌, ◌/◌, ◌%◌, ◌^◌, 
 use Rattle.std.specs.Int.Signed.{lt_z, le_z}
 use Rattle.ring.specs.Choices.{pick}
 use Rattle.columns.specs.Walk.{Beside}
-use Rattle.districts.specs.Lists.{firstPlace, size, part}
+use Rattle.districts.specs.Lists.{first_place, size, part}
 use Rattle.index.specs.declared.bands.Axis as Code
 
 -- a column with the runs of all districts in it
 pub record Held (column : List ℤ) (runs : List ℕ) : Type 0 where
   pub long : length column ≡ 2048
   pub runs-length : length runs ≡ 129
-  pub fits : (d : ℕ) → d < 64 → 0 < size runs d → firstPlace runs d + size runs d ≤ 2048
+  pub fits : (d : ℕ) → d < 64 → 0 < size runs d → first_place runs d + size runs d ≤ 2048
 
 -- the numbers of d's run
 abbrev pub run : List ℤ → List ℕ → ℕ → List ℤ
-run column runs d = part column (firstPlace runs d) (size runs d)
+run column runs d = part column (first_place runs d) (size runs d)
 
 -- each number of a column is low at least, or high at most
 abbrev pub From : List ℤ → ℤ → Type 0

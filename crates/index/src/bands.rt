@@ -1,7 +1,7 @@
 // An axis that all bounds lie on, cut into bands of equal width. The width is a power of two, so that a shift tells a number's band.
 ghost use Rattle.std.specs.Prelude.{◌≡◌, true, ◌<◌, ◌/◌, ◌^◌, length};
 ghost use Rattle.std.specs.Int.Signed.{le_z};
-ghost use Rattle.index.specs.Axis.{low_of, high_of, far as farOf, band as bandOf, Spans};
+ghost use Rattle.index.specs.Axis.{low_of, high_of, far as far_of, band as band_of, Spans};
 
 use crate::Bound;
 use crate::bounds::{highest, lowest};
@@ -19,7 +19,7 @@ pub struct Axis {
 // How far v is from low.
 fn far(v: Bound, low: Bound) -> usize
     requires { le_z low.0 v.0 ≡ true }
-    ensures { (result ≡ farOf v.0 low.0) × (result < 2 ^ 32) }
+    ensures { (result ≡ far_of v.0 low.0) × (result < 2 ^ 32) }
 {
     (v.0 as i64 - low.0 as i64) as usize
 }
@@ -53,7 +53,7 @@ pub fn spanning(bounds: &[i32]) -> Axis
 // The band of a number on the axis.
 pub fn band(a: Axis, v: Bound) -> usize
     requires { (le_z a.low v.0 ≡ true) × (a.shift < 64) }
-    ensures { result ≡ bandOf a.low a.shift v.0 }
+    ensures { result ≡ band_of a.low a.shift v.0 }
 {
     far(v, Bound(a.low)) >> a.shift
 }

@@ -2,7 +2,7 @@
 ghost use Rattle.std.specs.Prelude.{◌≡◌, ◌+◌, ◌<◌, ◌≤◌, length, set};
 ghost use Rattle.std.specs.Int.Signed.{lt_z};
 ghost use Rattle.ring.specs.Choices.{pick};
-ghost use Rattle.index.specs.Axis.{Held, From, UpTo, Bounded, within as withinBounds};
+ghost use Rattle.index.specs.Axis.{Held, From, UpTo, Bounded, within as within_bounds};
 
 // Where the high bounds begin.
 pub const HIGHS: usize = 64;
@@ -103,7 +103,7 @@ pub fn bound_all(column: &[i32], runs: &[u32], bounds: &mut [i32])
 // Whether v is within d's bounds.
 pub fn within(bounds: &[i32], d: usize, v: Bound) -> bool
     requires { (length bounds.now ≡ 128) × (d < 64) }
-    ensures { result ≡ withinBounds bounds.now d v.0 }
+    ensures { result ≡ within_bounds bounds.now d v.0 }
 {
     (bounds[d] <= v.0) & (v.0 <= bounds[HIGHS + d])
 }

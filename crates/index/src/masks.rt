@@ -1,7 +1,7 @@
 // A mask for each band: bit d is set where number d touches it.
 ghost use Rattle.std.specs.Prelude.{◌≡◌, true, ℕ, ◌+◌, ◌<◌, length};
 ghost use Rattle.std.specs.Int.Signed.{le_z};
-ghost use Rattle.index.specs.Axis.{low_of, high_of, OnAxis, Spans, Cleared, Widened, Marked, listed as listedBy};
+ghost use Rattle.index.specs.Axis.{low_of, high_of, OnAxis, Spans, Cleared, Widened, Marked, listed as listed_by};
 
 use crate::Bound;
 use crate::bands::{Axis, band};
@@ -61,7 +61,7 @@ pub fn mark_all(masks: &mut [u64], bounds: &[i32], runs: &[u32], a: Axis)
 pub fn listed(masks: &[u64], a: Axis, v: Bound) -> u64
     requires masks_len { length masks.now ≡ 64 }
     requires on_axis { OnAxis a }
-    ensures { result ≡ listedBy masks.now a v.0 }
+    ensures { result ≡ listed_by masks.now a v.0 }
 {
     if (v.0 < a.low) | (a.high < v.0) {
         return 0;

@@ -9,20 +9,20 @@ use lib.Dec.{eqb, leb, ltb}
 use lib.IntN.{ℤ}
 use lib.ListN.{length, length-append, length-reverse, get_or-eq_default}
 use Rattle.ring.specs.declared.Point.{Point}
-use Rattle.ring.specs.Grid.{vertices, someBeyond}
+use Rattle.ring.specs.Grid.{vertices, some_beyond}
 use Rattle.ring.specs.Locate.{lowest}
-use Rattle.districts.specs.Register.{slot, inUse, verticesOf}
+use Rattle.districts.specs.Register.{slot, in_use, vertices_of}
 use Rattle.districts.specs.Lent.{beginning}
-use Rattle.districts.specs.Lists.{firstPlace, size, part, meaning}
+use Rattle.districts.specs.Lists.{first_place, size, part, meaning}
 use Rattle.districts.specs.WellFormed.{total}
 use Rattle.districts.proofs.Sums.{sum_same}
 use Rattle.districts.proofs.Meaning.{unused-when, ring-when, slot_is}
 use Rattle.refusals.specs.Verdicts.{◌if◌}
 use Rattle.districts.proofs.Lent.{part_length, held-in-use}
 use Rattle.room.specs.Runs.{run, steps}
-use Rattle.judging.specs.Splitting.{pieceOne, pieceTwo, lowestUnused, vertexCount, splitTests}
-use Rattle.judging.specs.Judging.{lowestFree, districtTests}
-use Rattle.room.specs.Writing.{numbersOf}
+use Rattle.judging.specs.Splitting.{piece_one, piece_two, lowest_unused, vertex_count, split_tests}
+use Rattle.judging.specs.Judging.{lowest_free, district_tests}
+use Rattle.room.specs.Writing.{numbers_of}
 use Rattle.room.proofs.Forms.{Sound}
 use Rattle.room.proofs.Parts.{points-on-grid}
 use Rattle.room.proofs.Written.{run_length}
@@ -43,66 +43,66 @@ module _ (outline store : List Point) (runs : List ℕ) (s : Sound outline store
   ]
 
   -- the ring of a number in use, as the store holds it
-  pub ring-numbers : (d : ℕ) → (size runs d ≡ 0 → ⊥) → length (part store (firstPlace runs d) (size runs d)) ≡ size runs d
+  pub ring-numbers : (d : ℕ) → (size runs d ≡ 0 → ⊥) → length (part store (first_place runs d) (size runs d)) ≡ size runs d
   ring-numbers d some =
       let fits = s.inside d (used-below d some) (omega arith) in
-      part_length store (firstPlace runs d) (size runs d) (omega (arith, fits, s.most, s.store_length))
+      part_length store (first_place runs d) (size runs d) (omega (arith, fits, s.most, s.store_length))
 
-  pub ring_of : (d : ℕ) → (size runs d ≡ 0 → ⊥) → verticesOf (slot (meaning outline store runs) d) ≡ part store (firstPlace runs d) (size runs d)
-  ring_of d some = ap verticesOf (slot_is outline store runs s.runs-length d ∙ ring-when store (firstPlace runs d) (size runs d) some)
+  pub ring_of_lem : (d : ℕ) → (size runs d ≡ 0 → ⊥) → vertices_of (slot (meaning outline store runs) d) ≡ part store (first_place runs d) (size runs d)
+  ring_of_lem d some = ap vertices_of (slot_is outline store runs s.runs-length d ∙ ring-when store (first_place runs d) (size runs d) some)
 
-  pub ring-on-grid : (d : ℕ) → (size runs d ≡ 0 → ⊥) → someBeyond (numbersOf (part store (firstPlace runs d) (size runs d))) ≡ false
+  pub ring-on-grid : (d : ℕ) → (size runs d ≡ 0 → ⊥) → some_beyond (numbers_of (part store (first_place runs d) (size runs d))) ≡ false
   ring-on-grid d some =
       let fits = s.inside d (used-below d some) (omega (arith, some)) in
-      points-on-grid store (firstPlace runs d) (size runs d) (total runs) fits s.store-grid
+      points-on-grid store (first_place runs d) (size runs d) (total runs) fits s.store-grid
 
-  abbrev ringOf : ℕ → List Point
-  ringOf d = verticesOf (slot (meaning outline store runs) d)
+  abbrev ring_of : ℕ → List Point
+  ring_of d = vertices_of (slot (meaning outline store runs) d)
 
-  pub length-of : (d : ℕ) → length (verticesOf (slot (meaning outline store runs) d)) ≡ size runs d
+  pub length-of : (d : ℕ) → length (vertices_of (slot (meaning outline store runs) d)) ≡ size runs d
   length-of d = elim (ℕ_discrete (size runs d) 0) [
-    | yes none ↦ ap (λ t. length (verticesOf t)) (slot_is outline store runs s.runs-length d ∙ unused-when store (firstPlace runs d) (size runs d) none) ∙ sym none
-    | no some ↦ ap length (ring_of d some) ∙ ring-numbers d some
+    | yes none ↦ ap (λ t. length (vertices_of t)) (slot_is outline store runs s.runs-length d ∙ unused-when store (first_place runs d) (size runs d) none) ∙ sym none
+    | no some ↦ ap length (ring_of_lem d some) ∙ ring-numbers d some
   ]
 
-  pub used-is : (d : ℕ) → inUse (slot (meaning outline store runs) d) ≡ not (eqb (size runs d) 0)
-  used-is d = ap inUse (slot_is outline store runs s.runs-length d) ∙ held-in-use store (firstPlace runs d) (size runs d)
+  pub used-is : (d : ℕ) → in_use (slot (meaning outline store runs) d) ≡ not (eqb (size runs d) 0)
+  used-is d = ap in_use (slot_is outline store runs s.runs-length d) ∙ held-in-use store (first_place runs d) (size runs d)
 
-  unused-is : (d : ℕ) → not (inUse (slot (meaning outline store runs) d)) ≡ eqb (size runs d) 0
+  unused-is : (d : ℕ) → not (in_use (slot (meaning outline store runs) d)) ≡ eqb (size runs d) 0
   unused-is d = ap not (used-is d) ∙ say (eqb (size runs d) 0)
     where
       say : (b : Bool) → not (not b) ≡ b
       say true = refl
       say false = refl
 
-  pub free-is : lowestUnused (meaning outline store runs) ≡ lowestFree runs
-  unfolding lowestUnused
+  pub free-is : lowest_unused (meaning outline store runs) ≡ lowest_free runs
+  unfolding lowest_unused
   free-is = λ i. lowest (λ d. unused-is d i) 64 0
 
-  pub count-is : vertexCount (meaning outline store runs) ≡ total runs
-  unfolding vertexCount
-  count-is = sum_same (λ d. length (verticesOf (slot (meaning outline store runs) d))) (size runs) 64 (λ d h. length-of d)
+  pub count-is : vertex_count (meaning outline store runs) ≡ total runs
+  unfolding vertex_count
+  count-is = sum_same (λ d. length (vertices_of (slot (meaning outline store runs) d))) (size runs) 64 (λ d h. length-of d)
 
   module _ (d i j : ℕ) (path : List ℤ) where
-    piece : (a b : ℕ) (W : List Point) → length W ≡ length path / 2 → length (run (ringOf d) a (suc (steps (length (ringOf d)) a b)) ++ W) ≡ suc (steps (size runs d) a b) + length path / 2
+    piece : (a b : ℕ) (W : List Point) → length W ≡ length path / 2 → length (run (ring_of d) a (suc (steps (length (ring_of d)) a b)) ++ W) ≡ suc (steps (size runs d) a b) + length path / 2
     piece a b W e =
-        length-append (run (ringOf d) a (suc (steps (length (ringOf d)) a b))) W
-        ∙ (λ t. run_length (ringOf d) a (suc (steps (length (ringOf d)) a b)) t + e t)
+        length-append (run (ring_of d) a (suc (steps (length (ring_of d)) a b))) W
+        ∙ (λ t. run_length (ring_of d) a (suc (steps (length (ring_of d)) a b)) t + e t)
         ∙ ap (λ n. suc (steps n a b) + length path / 2) (length-of d)
 
-    pub one-long : length (pieceOne (ringOf d) i j (vertices path)) ≡ suc (steps (size runs d) i j) + length path / 2
+    pub one-long : length (piece_one (ring_of d) i j (vertices path)) ≡ suc (steps (size runs d) i j) + length path / 2
     one-long = piece i j (reverse (vertices path)) (length-reverse (vertices path) ∙ vertices-half path)
 
-    pub two-long : length (pieceTwo (ringOf d) i j (vertices path)) ≡ suc (steps (size runs d) j i) + length path / 2
+    pub two-long : length (piece_two (ring_of d) i j (vertices path)) ≡ suc (steps (size runs d) j i) + length path / 2
     two-long = piece j i (vertices path) (vertices-half path)
 
-    pub tests-are : (b : Bool) → splitTests b (meaning outline store runs) d i j path ≡ beginning b (meaning outline store runs) ++ districtTests runs d i j path
+    pub tests-are : (b : Bool) → split_tests b (meaning outline store runs) d i j path ≡ beginning b (meaning outline store runs) ++ district_tests runs d i j path
     tests-are b = λ t.
         beginning b (meaning outline store runs)
         ++ (6 if unused-is d t)
         ∷ (8 if (leb (length-of d t) i || leb (length-of d t) j) || eqb i j)
         ∷ (4 if eqb (length path % 2) 1)
-        ∷ (5 if someBeyond path)
+        ∷ (5 if some_beyond path)
         ∷ (9 if ltb (one-long t) 3 || ltb (two-long t) 3)
         ∷ (11 if leb 64 (free-is t))
         ∷ (12 if ltb 2048 (count-is t + 2 + length path))

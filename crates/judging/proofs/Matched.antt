@@ -17,18 +17,18 @@ use Rattle.judging.specs.Merging.{matches, merged}
 
 -- ---- all points of the border, of which the second ring has m vertices
 
-abbrev pub meetsAt : List Point → ℕ → List Point → ℕ → ℕ → ℕ → Bool
-meetsAt P a Q b m t = same (at P (a + t)) (at Q (b + m - t))
+abbrev pub meets_at : List Point → ℕ → List Point → ℕ → ℕ → ℕ → Bool
+meets_at P a Q b m t = same (at P (a + t)) (at Q (b + m - t))
 
 module _ (P : List Point) (a : ℕ) (Q : List Point) (b m k : ℕ) (long : length Q ≡ m) where
-  pub match-all : ((t : ℕ) → t < suc k → meetsAt P a Q b m t ≡ true) → true ≡ matches P a Q b k
+  pub match-all : ((t : ℕ) → t < suc k → meets_at P a Q b m t ≡ true) → true ≡ matches P a Q b k
   unfolding matches
-  match-all each = sym (all_pass (meetsAt P a Q b (length Q)) (suc k) (λ t h. ap (λ n. meetsAt P a Q b n t) long ∙ each t h))
+  match-all each = sym (all_pass (meets_at P a Q b (length Q)) (suc k) (λ t h. ap (λ n. meets_at P a Q b n t) long ∙ each t h))
 
-  pub match-fails : (t : ℕ) → t ≤ k → meetsAt P a Q b m t ≡ false → false ≡ matches P a Q b k
+  pub match-fails : (t : ℕ) → t ≤ k → meets_at P a Q b m t ≡ false → false ≡ matches P a Q b k
   unfolding matches
   match-fails t h e = sym (refuted (matches P a Q b k) (λ all.
-      let met = ap (λ n. meetsAt P a Q b n t) (sym long) ∙ all-each (meetsAt P a Q b (length Q)) (suc k) all t (omega arith) in
+      let met = ap (λ n. meets_at P a Q b n t) (sym long) ∙ all-each (meets_at P a Q b (length Q)) (suc k) all t (omega arith) in
       let clash : ◌≡◌ {A = ℕ} 0 1 = ap (λ c. pick c 1 0) (sym e ∙ met) in
       omega arith))
 

@@ -11,18 +11,18 @@ use mathlib.Core.Logic.{◌⊎◌, inl, inr}
 use lib.Dec.{T}
 use lib.IntN.{ℤ, pos, neg_ℤ, ◌+ℤ◌, ◌-ℤ◌, +ℤ_assoc, +ℤ_comm, +ℤ_idl, +ℤ_invl, neg_ℤ-+ℤ, +ℤ-neg_ℤ_cancel}
 use lib.ListN.{length, get_or}
-use Rattle.exact.specs.Sign.{eqZ}
-use Rattle.exact.proofs.Signs.{eqZ-eq}
+use Rattle.exact.specs.Sign.{eq_z}
+use Rattle.exact.proofs.Signs.{eq_z-eq}
 use Rattle.ring.specs.declared.Point.{Point}
 use Rattle.ring.specs.Grid.{point}
-use Rattle.ring.specs.Rings.{at, Weight, Antisymmetric, total, ringSum}
+use Rattle.ring.specs.Rings.{at, Weight, Antisymmetric, total, ring_sum}
 use Rattle.ring.specs.Segment.{same}
 use Rattle.ring.proofs.Vertices.{origin}
-use Rattle.ring.proofs.Sums.{total-split, along, along-append, along-reverse, ringSum-along}
+use Rattle.ring.proofs.Sums.{total-split, along, along-append, along-reverse, ring_sum-along}
 use Rattle.districts.proofs.Tests.{both_left, both_right}
 use Rattle.districts.proofs.Counting.{all-each}
 use Rattle.room.specs.Runs.{run, steps}
-use Rattle.judging.specs.Splitting.{pieceOne, pieceTwo}
+use Rattle.judging.specs.Splitting.{piece_one, piece_two}
 use Rattle.judging.specs.Merging.{matches, merged}
 
 -- ---- indices round a ring
@@ -71,9 +71,9 @@ module _ (n i j : ℕ) (h : i < n) (k : j < n) (other : i ≡ j → ⊥) where
 pub same-is : (P Q : Point) → same P Q ≡ true → P ≡ Q
 unfolding same
 same-is P Q e =
-    let across = both_left (eqZ P.x Q.x) (eqZ P.y Q.y) e in
-    let up = both_right (eqZ P.x Q.x) (eqZ P.y Q.y) e in
-    λ t. point (eqZ-eq P.x Q.x (subst T (sym across) tt) t) (eqZ-eq P.y Q.y (subst T (sym up) tt) t)
+    let across = both_left (eq_z P.x Q.x) (eq_z P.y Q.y) e in
+    let up = both_right (eq_z P.x Q.x) (eq_z P.y Q.y) e in
+    λ t. point (eq_z-eq P.x Q.x (subst T (sym across) tt) t) (eq_z-eq P.y Q.y (subst T (sym up) tt) t)
 
 -- what is added and taken away again
 cancels : (a b w : ℤ) → (a +ℤ neg_ℤ w) +ℤ (b +ℤ w) ≡ a +ℤ b
@@ -127,9 +127,9 @@ module _ (f : Weight) where
         say (inr e) = ap (λ p. stretch P p c) e.1 ∙ stretch-around P j c
 
   -- once round, from any vertex: what stands before the vertex is added at the end
-  whole : (P : List Point) (i : ℕ) → stretch P i (length P) ≡ ringSum f P
-  unfolding stretch ringSum
-  whole P i = cancel (total f (at P) i) (stretch P i (length P)) (ringSum f P) (
+  whole : (P : List Point) (i : ℕ) → stretch P i (length P) ≡ ring_sum f P
+  unfolding stretch ring_sum
+  whole P i = cancel (total f (at P) i) (stretch P i (length P)) (ring_sum f P) (
       sym (total-split f (at P) i (length P))
       ∙ ap (total f (at P)) swapped
       ∙ total-split f (at P) (length P) i
@@ -167,12 +167,12 @@ module _ (f : Weight) where
       ap (λ l. at P i ∷ l) (run-last P (suc i) c Q ∙ (λ t. run P (suc i) c ++ (at P (last t) ∷ Q)))
 
   -- a ring of a stretch and of what leads back from its end to its first vertex
-  closed : (P : List Point) (i c : ℕ) (Q : List Point) → 0 < c → ringSum f (run P i (suc c) ++ Q) ≡ stretch P i c +ℤ along f (at P (i + c)) Q (at P i)
+  closed : (P : List Point) (i c : ℕ) (Q : List Point) → 0 < c → ring_sum f (run P i (suc c) ++ Q) ≡ stretch P i c +ℤ along f (at P (i + c)) Q (at P i)
   unfolding run
   closed P i zero Q h = absurd (let none : ⊥ = omega arith in none)
   closed P i (suc c) Q h =
       let last : suc i + c ≡ i + suc c = omega arith in
-      ringSum-along f (at P i) (run P (suc i) (suc c) ++ Q)
+      ring_sum-along f (at P i) (run P (suc i) (suc c) ++ Q)
       ∙ ap (λ l. along f (at P i) l (at P i)) (run-last P (suc i) c Q)
       ∙ along-append f (at P i) (at P (suc i + c)) (at P i) (run P (suc i) c) Q
       ∙ (λ t. along-run P i c (at P (suc i + c)) (ap (at P) (sym last)) t +ℤ along f (at P (last t)) Q (at P i))
@@ -180,7 +180,7 @@ module _ (f : Weight) where
   module _ (anti : Antisymmetric f) where
     -- ---- splitting
 
-    pub split-sum : (P W : List Point) (i j : ℕ) → i < length P → j < length P → (i ≡ j → ⊥) → ringSum f (pieceOne P i j W) +ℤ ringSum f (pieceTwo P i j W) ≡ ringSum f P
+    pub split-sum : (P W : List Point) (i j : ℕ) → i < length P → j < length P → (i ≡ j → ⊥) → ring_sum f (piece_one P i j W) +ℤ ring_sum f (piece_two P i j W) ≡ ring_sum f P
     split-sum P W i j h k other =
         let from : (j ≡ i → ⊥) = λ e. other (sym e) in
         (λ t. closed P i there (reverse W) (steps-some (length P) i j h k other) t +ℤ closed P j back W (steps-some (length P) j i k h from) t)
@@ -217,7 +217,7 @@ module _ (f : Weight) where
         shifted t h = let less : suc k - t ≡ suc (k - t) = omega arith in e t (omega arith) ∙ ap r less
 
     pub merge-sum : (A B : List Point) (a b k : ℕ) → a < length A → b < length B → 1 ≤ k → k < length A → k < length B → matches A a B b k ≡ true
-        → ringSum f (merged A a B b k) ≡ ringSum f A +ℤ ringSum f B
+        → ring_sum f (merged A a B b k) ≡ ring_sum f A +ℤ ring_sum f B
     unfolding matches stretch
     merge-sum A B a b k ha hb least ka kb match =
         closed A (a + k) rest-A (run B (suc b) (length B - suc k)) (omega arith)

@@ -9,55 +9,55 @@ use lib.Dec.{eqb, leb, ltb}
 use lib.IntN.{ℤ}
 use lib.ListN.{length, get_or-eq_default}
 use borrow.Author.Tests.{eqb-false, leb-false, ltb-false, not-false}
-use Rattle.ring.specs.Grid.{vertices, someBeyond}
+use Rattle.ring.specs.Grid.{vertices, some_beyond}
 use Rattle.ring.specs.Choices.{pick}
 use Rattle.ring.proofs.Pick.{neither_left, neither_right}
-use Rattle.districts.specs.Register.{Slot, unused, ring, Register, slot, inUse, verticesOf}
+use Rattle.districts.specs.Register.{Slot, unused, ring, Register, slot, in_use, vertices_of}
 use Rattle.refusals.specs.Verdicts.{accept, verdict}
 use Rattle.refusals.proofs.Verdicts.{accepted}
-use Rattle.judging.specs.Splitting.{pieceOne, pieceTwo, lowestUnused, vertexCount, splitTests}
-use Rattle.judging.specs.Merging.{matches, merged, mergeTests}
+use Rattle.judging.specs.Splitting.{piece_one, piece_two, lowest_unused, vertex_count, split_tests}
+use Rattle.judging.specs.Merging.{matches, merged, merge_tests}
 
 -- ---- slots
 
-pub used-ring : (s : Slot) → inUse s ≡ true → s ≡ ring (verticesOf s)
+pub used-ring : (s : Slot) → in_use s ≡ true → s ≡ ring (vertices_of s)
 used-ring unused e = let clash : ◌≡◌ {A = ℕ} 0 1 = ap (λ b. pick b 1 0) e in absurd (let f : ⊥ = omega arith in f)
 used-ring (ring P) e = refl
 
-pub unused-slot : (s : Slot) → inUse s ≡ false → s ≡ unused
+pub unused-slot : (s : Slot) → in_use s ≡ false → s ≡ unused
 unused-slot unused e = refl
 unused-slot (ring P) e = let clash : ◌≡◌ {A = ℕ} 1 0 = ap (λ b. pick b 1 0) e in absurd (let f : ⊥ = omega arith in f)
 
 -- a number in use is one of the register's numbers
-pub used-below : (g : Register) (d : ℕ) → inUse (slot g d) ≡ true → d < length g.districts
+pub used-below : (g : Register) (d : ℕ) → in_use (slot g d) ≡ true → d < length g.districts
 used-below g d e = elim (dec_lt d (length g.districts)) [
   | yes less ↦ less
   | no more ↦
-      let clash : ◌≡◌ {A = ℕ} 0 1 = ap (λ b. pick b 1 0) (sym (ap inUse (get_or-eq_default g.districts unused (omega (arith, more)))) ∙ e) in
+      let clash : ◌≡◌ {A = ℕ} 0 1 = ap (λ b. pick b 1 0) (sym (ap in_use (get_or-eq_default g.districts unused (omega (arith, more)))) ∙ e) in
       absurd (let f : ⊥ = omega arith in f)
 ]
 
 -- ---- splitting
 
 pub record Splittable (g : Register) (d i j : ℕ) (path : List ℤ) : Type 0 where
-  pub outlined : inUse g.outline ≡ true
-  pub used : inUse (slot g d) ≡ true
-  pub lower : i < length (verticesOf (slot g d))
-  pub other : j < length (verticesOf (slot g d))
+  pub outlined : in_use g.outline ≡ true
+  pub used : in_use (slot g d) ≡ true
+  pub lower : i < length (vertices_of (slot g d))
+  pub other : j < length (vertices_of (slot g d))
   pub differ : i ≡ j → ⊥
   pub even : length path % 2 ≡ 0
-  pub grid : someBeyond path ≡ false
-  pub first : 3 ≤ length (pieceOne (verticesOf (slot g d)) i j (vertices path))
-  pub second : 3 ≤ length (pieceTwo (verticesOf (slot g d)) i j (vertices path))
-  pub number : lowestUnused g < 64
-  pub room : vertexCount g + 2 + length path ≤ 2048
+  pub grid : some_beyond path ≡ false
+  pub first : 3 ≤ length (piece_one (vertices_of (slot g d)) i j (vertices path))
+  pub second : 3 ≤ length (piece_two (vertices_of (slot g d)) i j (vertices path))
+  pub number : lowest_unused g < 64
+  pub room : vertex_count g + 2 + length path ≤ 2048
 
-pub split-told : (b : Bool) (g : Register) (d i j : ℕ) (path : List ℤ) → verdict (splitTests b g d i j path) ≡ accept → Splittable g d i j path
+pub split-told : (b : Bool) (g : Register) (d i j : ℕ) (path : List ℤ) → verdict (split_tests b g d i j path) ≡ accept → Splittable g d i j path
 split-told b g d i j path fine =
-    let P = verticesOf (slot g d) in
+    let P = vertices_of (slot g d) in
     let n = length P in
-    let one = length (pieceOne P i j (vertices path)) in
-    let two = length (pieceTwo P i j (vertices path)) in
+    let one = length (piece_one P i j (vertices path)) in
+    let two = length (piece_two P i j (vertices path)) in
     let t2 = accepted 2 _ _ (accepted 1 _ _ fine).1 in
     let t6 = accepted 6 _ _ t2.1 in
     let t8 = accepted 8 _ _ t6.1 in
@@ -78,29 +78,29 @@ split-told b g d i j path fine =
       grid = t5.0;
       first = ltb-false one 3 (neither_left (ltb one 3) (ltb two 3) t9.0);
       second = ltb-false two 3 (neither_right (ltb one 3) (ltb two 3) t9.0);
-      number = leb-false 64 (lowestUnused g) t11.0;
-      room = ltb-false 2048 (vertexCount g + 2 + length path) t12.0;
+      number = leb-false 64 (lowest_unused g) t11.0;
+      room = ltb-false 2048 (vertex_count g + 2 + length path) t12.0;
     }
 
 -- ---- merging
 
 pub record Mergeable (g : Register) (A a B b k : ℕ) : Type 0 where
-  pub outlined : inUse g.outline ≡ true
-  pub kept : inUse (slot g A) ≡ true
-  pub gone : inUse (slot g B) ≡ true
+  pub outlined : in_use g.outline ≡ true
+  pub kept : in_use (slot g A) ≡ true
+  pub gone : in_use (slot g B) ≡ true
   pub differ : A ≡ B → ⊥
-  pub first : a < length (verticesOf (slot g A))
-  pub second : b < length (verticesOf (slot g B))
+  pub first : a < length (vertices_of (slot g A))
+  pub second : b < length (vertices_of (slot g B))
   pub least : 1 ≤ k
-  pub fewer : k < length (verticesOf (slot g A))
-  pub also : k < length (verticesOf (slot g B))
-  pub match : matches (verticesOf (slot g A)) a (verticesOf (slot g B)) b k ≡ true
-  pub enough : 3 ≤ length (merged (verticesOf (slot g A)) a (verticesOf (slot g B)) b k)
+  pub fewer : k < length (vertices_of (slot g A))
+  pub also : k < length (vertices_of (slot g B))
+  pub match : matches (vertices_of (slot g A)) a (vertices_of (slot g B)) b k ≡ true
+  pub enough : 3 ≤ length (merged (vertices_of (slot g A)) a (vertices_of (slot g B)) b k)
 
-pub merge-told : (w : Bool) (g : Register) (A a B b k : ℕ) → verdict (mergeTests w g A a B b k) ≡ accept → Mergeable g A a B b k
+pub merge-told : (w : Bool) (g : Register) (A a B b k : ℕ) → verdict (merge_tests w g A a B b k) ≡ accept → Mergeable g A a B b k
 merge-told w g A a B b k fine =
-    let P = verticesOf (slot g A) in
-    let Q = verticesOf (slot g B) in
+    let P = vertices_of (slot g A) in
+    let Q = vertices_of (slot g B) in
     let t2 = accepted 2 _ _ (accepted 1 _ _ fine).1 in
     let t6 = accepted 6 _ _ t2.1 in
     let t7 = accepted 7 _ _ t6.1 in
@@ -112,8 +112,8 @@ merge-told w g A a B b k fine =
     let nought = eqb-false k 0 (neither_left (eqb k 0) _ edges) in
     record {
       outlined = not-false _ t2.0;
-      kept = not-false _ (neither_left (not (inUse (slot g A))) (not (inUse (slot g B))) t6.0);
-      gone = not-false _ (neither_right (not (inUse (slot g A))) (not (inUse (slot g B))) t6.0);
+      kept = not-false _ (neither_left (not (in_use (slot g A))) (not (in_use (slot g B))) t6.0);
+      gone = not-false _ (neither_right (not (in_use (slot g A))) (not (in_use (slot g B))) t6.0);
       differ = eqb-false A B t7.0;
       first = leb-false (length P) a (neither_left (leb (length P) a) (leb (length Q) b) t8.0);
       second = leb-false (length Q) b (neither_right (leb (length P) a) (leb (length Q) b) t8.0);

@@ -2,12 +2,12 @@
 ghost use Rattle.std.specs.Prelude.{◌≡◌, ◌+◌, ◌-◌, ◌≤◌, length};
 ghost use Rattle.ring.specs.Columns.{points};
 ghost use Rattle.ring.specs.Rings.{at};
-ghost use Rattle.ring.specs.Segment.{same as samePoint};
+ghost use Rattle.ring.specs.Segment.{same as same_point};
 ghost use Rattle.districts.specs.Lists.{district};
-ghost use Rattle.refusals.specs.Verdicts.{verdict, verdictOf};
+ghost use Rattle.refusals.specs.Verdicts.{verdict, verdict_of};
 ghost use Rattle.districts.specs.Lent.{lent, formed, means, GoodRuns};
-ghost use Rattle.judging.specs.Merging.{matches as matchAll, mergeTests};
-ghost use Rattle.judging.specs.Judging.{Matchable, borderTests, pairTests};
+ghost use Rattle.judging.specs.Merging.{matches as match_all, merge_tests};
+ghost use Rattle.judging.specs.Judging.{Matchable, border_tests, pair_tests};
 
 use crate::splits;
 use refusals::{Refusal, Verdict};
@@ -16,7 +16,7 @@ use refusals::{Refusal, Verdict};
 fn meets(xs: &[i32], ys: &[i32], a: usize, us: &[i32], vs: &[i32], b: usize, t: usize) -> bool
     requires cases { Matchable xs.now ys.now a t }
     requires cases_2 { Matchable us.now vs.now b t }
-    ensures { result ≡ samePoint (at (points xs.now ys.now) (a + t)) (at (points us.now vs.now) (b + length us.now - t)) }
+    ensures { result ≡ same_point (at (points xs.now ys.now) (a + t)) (at (points us.now vs.now) (b + length us.now - t)) }
 {
     let n = xs.len();
     let m = us.len();
@@ -29,7 +29,7 @@ fn meets(xs: &[i32], ys: &[i32], a: usize, us: &[i32], vs: &[i32], b: usize, t: 
 fn matches(xs: &[i32], ys: &[i32], a: usize, us: &[i32], vs: &[i32], b: usize, k: usize) -> bool
     requires cases { Matchable xs.now ys.now a k }
     requires cases_2 { Matchable us.now vs.now b k }
-    ensures { result ≡ matchAll (points xs.now ys.now) a (points us.now vs.now) b k }
+    ensures { result ≡ match_all (points xs.now ys.now) a (points us.now vs.now) b k }
 {
     let mut t = 0;
     while t <= k {
@@ -53,7 +53,7 @@ fn judge_border(
 ) -> Verdict
     requires xs_len { (length xs.now ≡ length ys.now) × (length us.now ≡ length vs.now) }
     requires xs_len_bound { (length xs.now ≤ 2048) × (length us.now ≤ 2048) }
-    ensures { verdictOf result ≡ verdict (borderTests (points xs.now ys.now) a (points us.now vs.now) b k) }
+    ensures { verdict_of result ≡ verdict (border_tests (points xs.now ys.now) a (points us.now vs.now) b k) }
 {
     let n = xs.len();
     let m = us.len();
@@ -84,7 +84,7 @@ fn judge_pair(
     k: usize,
 ) -> Verdict
     requires { GoodRuns sx.now sy.now runs.now }
-    ensures { verdictOf result ≡ verdict (pairTests (district (points sx.now sy.now) runs.now kept) (district (points sx.now sy.now) runs.now gone) kept a gone b k) }
+    ensures { verdict_of result ≡ verdict (pair_tests (district (points sx.now sy.now) runs.now kept) (district (points sx.now sy.now) runs.now gone) kept a gone b k) }
 {
     if !splits::in_use(runs, kept) | !splits::in_use(runs, gone) {
         return Verdict::Refused(Refusal::BadNumber);
@@ -122,7 +122,7 @@ pub fn merge(
     k: usize,
 ) -> Verdict
     requires { good ≡ formed (lent ox.now oy.now sx.now sy.now runs.now) }
-    ensures { verdictOf result ≡ verdict (mergeTests (formed (lent ox.now oy.now sx.now sy.now runs.now)) (means (lent ox.now oy.now sx.now sy.now runs.now)) kept a gone b k) }
+    ensures { verdict_of result ≡ verdict (merge_tests (formed (lent ox.now oy.now sx.now sy.now runs.now)) (means (lent ox.now oy.now sx.now sy.now runs.now)) kept a gone b k) }
 {
     match districts::begins(good, runs) {
         Verdict::Accepted => judge_pair(sx, sy, runs, kept, a, gone, b, k),

@@ -3,10 +3,10 @@ ghost use Rattle.std.specs.Prelude.{◌≡◌, not, true, ◌+◌, ◌<◌, ◌�
 ghost use Rattle.districts.specs.Lists.{size as size_of};
 ghost use Rattle.districts.specs.WellFormed.{total as total_of};
 ghost use Rattle.districts.specs.Lent.{lent, formed, means};
-ghost use Rattle.refusals.specs.Verdicts.{verdict, verdictOf};
+ghost use Rattle.refusals.specs.Verdicts.{verdict, verdict_of};
 ghost use Rattle.room.specs.Runs.{steps as steps_of};
-ghost use Rattle.judging.specs.Splitting.{splitTests};
-ghost use Rattle.judging.specs.Judging.{lowestFree, pieceTests, cutTests, districtTests};
+ghost use Rattle.judging.specs.Splitting.{split_tests};
+ghost use Rattle.judging.specs.Judging.{lowest_free, piece_tests, cut_tests, district_tests};
 
 use districts::NUMBERS;
 use refusals::{Refusal, Verdict};
@@ -27,7 +27,7 @@ pub fn in_use(runs: &[u32], d: usize) -> bool
 
 pub fn lowest_unused(runs: &[u32]) -> usize
     requires { length runs.now ≡ 129 }
-    ensures { (result ≡ lowestFree runs.now) × (result ≤ 64) }
+    ensures { (result ≡ lowest_free runs.now) × (result ≤ 64) }
 {
     let mut d = 0;
     while d < NUMBERS {
@@ -57,7 +57,7 @@ fn judge_pieces(runs: &[u32], n: usize, i: usize, j: usize, path: &[i32]) -> Ver
     requires runs_len { length runs.now ≡ 129 }
     requires n_bound { (n ≤ 2048) × (i < n) × (j < n) }
     requires runs_bound { total_of runs.now ≤ 2048 }
-    ensures { verdictOf result ≡ verdict (pieceTests n (total_of runs.now) (lowestFree runs.now) i j path.now) }
+    ensures { verdict_of result ≡ verdict (piece_tests n (total_of runs.now) (lowest_free runs.now) i j path.now) }
 {
     let k = path.len() / 2;
     let one = 1 + steps(n, i, j) + k;
@@ -81,7 +81,7 @@ fn judge_cut(runs: &[u32], n: usize, i: usize, j: usize, path: &[i32]) -> Verdic
     requires runs_len { length runs.now ≡ 129 }
     requires n_bound { n ≤ 2048 }
     requires runs_bound { total_of runs.now ≤ 2048 }
-    ensures { verdictOf result ≡ verdict (cutTests n (total_of runs.now) (lowestFree runs.now) i j path.now) }
+    ensures { verdict_of result ≡ verdict (cut_tests n (total_of runs.now) (lowest_free runs.now) i j path.now) }
 {
     if ((n <= i) | (n <= j)) | (i == j) {
         return Verdict::Refused(Refusal::BadIndex);
@@ -99,7 +99,7 @@ fn judge_cut(runs: &[u32], n: usize, i: usize, j: usize, path: &[i32]) -> Verdic
 fn judge_district(runs: &[u32], d: usize, i: usize, j: usize, path: &[i32]) -> Verdict
     requires runs_len { length runs.now ≡ 129 }
     requires runs_bound { total_of runs.now ≤ 2048 }
-    ensures { verdictOf result ≡ verdict (districtTests runs.now d i j path.now) }
+    ensures { verdict_of result ≡ verdict (district_tests runs.now d i j path.now) }
 {
     if !in_use(runs, d) {
         return Verdict::Refused(Refusal::BadNumber);
@@ -121,7 +121,7 @@ pub fn split(
     path: &[i32],
 ) -> Verdict
     requires { good ≡ formed (lent ox.now oy.now sx.now sy.now runs.now) }
-    ensures { verdictOf result ≡ verdict (splitTests (formed (lent ox.now oy.now sx.now sy.now runs.now)) (means (lent ox.now oy.now sx.now sy.now runs.now)) d i j path.now) }
+    ensures { verdict_of result ≡ verdict (split_tests (formed (lent ox.now oy.now sx.now sy.now runs.now)) (means (lent ox.now oy.now sx.now sy.now runs.now)) d i j path.now) }
 {
     match districts::begins(good, runs) {
         Verdict::Accepted => judge_district(runs, d, i, j, path),

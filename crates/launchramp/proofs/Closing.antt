@@ -9,12 +9,12 @@ use lib.Seq.{take_at, take-add, take-append-le, drop_at, length-take-le}
 use borrow.Author.Tests.{le-ltb}
 use Rattle.ring.proofs.Pick.{pick_true, pick-false}
 use Rattle.tally.specs.declared.Tally.{Tally}
-use Rattle.tally.specs.Tally.{onesOf}
+use Rattle.tally.specs.Tally.{ones_of}
 use Rattle.wording.specs.Lines.{line, broken, refused, room, Written}
 use Rattle.wording.proofs.Written.{line-short, end_short}
-use Rattle.stream.specs.Desks.{brokenLine, lastLine}
+use Rattle.stream.specs.Desks.{broken_line, last_line}
 use Rattle.launchramp.specs.declared.Reading.{Reading}
-use Rattle.launchramp.specs.Held.{lastText, Opens}
+use Rattle.launchramp.specs.Held.{last_text, Opens}
 
 none_open : (list : List ℕ) → Opens 0 [] list
 none_open list = record { there = omega arith; first = refl }
@@ -49,25 +49,25 @@ opens-both n m k s t list rest o p =
 
 -- ---- the line of a broken record, if there is one
 
-pub no-line-opens : (b : Bool) (n : ℕ) (list : List ℕ) → not b ≡ true → Opens 0 (brokenLine b n) list
+pub no-line-opens : (b : Bool) (n : ℕ) (list : List ℕ) → not b ≡ true → Opens 0 (broken_line b n) list
 no-line-opens true n list e = absurd (true≢false (sym e))
 no-line-opens false n list e = none_open list
 
-pub broken-opens : (b : Bool) (n number r : ℕ) (before after : List ℕ) → not b ≡ false → number ≡ 13 → room ≤ length before → Written r (line n broken (refused number)) before after → Opens r (brokenLine b n) after
+pub broken-opens : (b : Bool) (n number r : ℕ) (before after : List ℕ) → not b ≡ false → number ≡ 13 → room ≤ length before → Written r (line n broken (refused number)) before after → Opens r (broken_line b n) after
 broken-opens true n number r before after e is h w = subst (λ k. Opens r (line n broken (refused k)) after) is (line-opens r (line n broken (refused number)) before after h w)
 broken-opens false n number r before after e is h w = absurd (true≢false e)
 
-pub broken-short : (b : Bool) (n : ℕ) → length (brokenLine b n) < room
+pub broken-short : (b : Bool) (n : ℕ) → length (broken_line b n) < room
 broken-short true n = line-short n broken (refused 13)
 broken-short false n = omega arith
 
-pub last-short : (records : ℕ) (t : Tally) → length (lastLine records t) < room
-last-short records t = end_short records (onesOf t) t.border t.none t.several
+pub last-short : (records : ℕ) (t : Tally) → length (last_line records t) < room
+last-short records t = end_short records (ones_of t) t.border t.none t.several
 
 -- ---- the last lines
 
-pub failed-opens : (d : Reading) (list : List ℕ) → d.failed ≡ true → Opens 0 (lastText d) list
+pub failed-opens : (d : Reading) (list : List ℕ) → d.failed ≡ true → Opens 0 (last_text d) list
 failed-opens d list failed = subst (λ t. Opens 0 t list) (sym (pick_true failed _ _)) (none_open list)
 
-pub last-opens : (d : Reading) (r : ℕ) (list : List ℕ) → d.failed ≡ false → Opens r (brokenLine d.broken d.records ++ lastLine d.records d.tally) list → Opens r (lastText d) list
+pub last-opens : (d : Reading) (r : ℕ) (list : List ℕ) → d.failed ≡ false → Opens r (broken_line d.broken d.records ++ last_line d.records d.tally) list → Opens r (last_text d) list
 last-opens d r list fine o = subst (λ t. Opens r t list) (sym (pick-false fine _ _)) o

@@ -10,7 +10,7 @@ use lib.Seq.{take_at, take-add, drop_at, drop-drop, length-take-le, paste}
 use Rattle.districts.specs.Lent.{Lists}
 use Rattle.stream.specs.declared.Page.{Page}
 use Rattle.stream.specs.declared.Stop.{Stop}
-use Rattle.stream.specs.Desks.{Desk, deskOf}
+use Rattle.stream.specs.Desks.{Desk, desk_of}
 use Rattle.stream.specs.Printing.{Printed}
 use Rattle.stream.specs.Pieces.{Standing, Piece, Part, Reads, last_of}
 use Rattle.stream.proofs.Pages.{printed-few}
@@ -95,7 +95,7 @@ waits-on d input k kept h =
 
 -- ---- a turn is a piece
 
-module _ (d : Reading) (input : List ℕ) (l m : Lists) (list list' : List ℤ) (to to' : List ℕ) (p : Page) (held : Held d input l) (printed : Printed (waiting d input) (deskOf l d.tally) d.records list to p m list' to') (ended : p.going ≡ false) where
+module _ (d : Reading) (input : List ℕ) (l m : Lists) (list list' : List ℤ) (to to' : List ℕ) (p : Page) (held : Held d input l) (printed : Printed (waiting d input) (desk_of l d.tally) d.records list to p m list' to') (ended : p.going ≡ false) where
   -- where printing leaves the program
   abbrev left : Standing → Standing
   left s = record { lists = m; tally = p.tally; records = p.records; held = drop p.at (waiting d input); stop = p.stop; written = s.written ++ take p.filled to' }
@@ -108,9 +108,9 @@ module _ (d : Reading) (input : List ℕ) (l m : Lists) (list list' : List ℤ) 
     to = to;
     to' = to';
     printed =
-        subst (λ b. Printed b (deskOf s.lists s.tally) s.records list to p m list' to') at.bytes
-        (subst (λ n. Printed (waiting d input) (deskOf s.lists s.tally) n list to p m list' to') (sym at.records)
-        (subst (λ k. Printed (waiting d input) k d.records list to p m list' to') (λ i. deskOf (sym at.lists i) (sym at.tally i)) printed));
+        subst (λ b. Printed b (desk_of s.lists s.tally) s.records list to p m list' to') at.bytes
+        (subst (λ n. Printed (waiting d input) (desk_of s.lists s.tally) n list to p m list' to') (sym at.records)
+        (subst (λ k. Printed (waiting d input) k d.records list to p m list' to') (λ i. desk_of (sym at.lists i) (sym at.tally i)) printed));
     ended = ended;
     tally = refl;
     records = refl;
@@ -120,7 +120,7 @@ module _ (d : Reading) (input : List ℕ) (l m : Lists) (list list' : List ℤ) 
   }
 
   within : Within d p
-  within = printed-within d input l (deskOf l d.tally) list to p m list' to' held printed
+  within = printed-within d input l (desk_of l d.tally) list to p m list' to' held printed
 
   -- the program behind what was printed
   abbrev pub next : Reading

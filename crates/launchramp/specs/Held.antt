@@ -5,7 +5,7 @@ use Rattle.districts.specs.Lent.{Lists, formed}
 use Rattle.tally.specs.Tally.{fresh}
 use Rattle.stream.specs.declared.Stop.{Stop}
 use Rattle.stream.specs.declared.Stop.TheVariants.{More, Broken}
-use Rattle.stream.specs.Desks.{brokenLine, lastLine}
+use Rattle.stream.specs.Desks.{broken_line, last_line}
 use Rattle.stream.specs.Pieces.{Standing, Piece, Part, Reads, last_of}
 use Rattle.launchramp.specs.declared.Reading.{Reading}
 use Rattle.launchramp.specs.declared.ports.Filled.{Filled}
@@ -84,8 +84,8 @@ pub record Went (l : Lists) (d : Reading) (input : List ℕ) (m : Lists) : Type 
 
 -- what the program hands to be written behind the records' lines: the line of a broken record, if one ended the reading, and the end line;
 -- nothing where a read or a write failed
-abbrev pub lastText : Reading → List ℕ
-lastText d = pick d.failed [] (brokenLine d.broken d.records ++ lastLine d.records d.tally)
+abbrev pub last_text : Reading → List ℕ
+last_text d = pick d.failed [] (broken_line d.broken d.records ++ last_line d.records d.tally)
 
 -- a list whose first r places hold a text
 pub record Opens (r : ℕ) (text list : List ℕ) : Type 0 where

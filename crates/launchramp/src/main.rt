@@ -10,8 +10,8 @@ ghost use Rattle.history.specs.Turns.{Fresh};
 ghost use Rattle.wording.specs.Lines.{room};
 ghost use Rattle.stream.specs.declared.Stop.TheVariants.{More};
 ghost use Rattle.index.specs.Both.{index, Fitting};
-ghost use Rattle.stream.specs.Desks.{brokenLine, lastLine};
-ghost use Rattle.launchramp.specs.Held.{piece, Kept, Onward, Held, Turned, Went, lastText, Opens};
+ghost use Rattle.stream.specs.Desks.{broken_line, last_line};
+ghost use Rattle.launchramp.specs.Held.{piece, Kept, Onward, Held, Turned, Went, last_text, Opens};
 
 use index::Axes;
 use libc::STDERR_FILENO;
@@ -214,7 +214,7 @@ fn read_all(
 
 fn broken_line(to: &mut [u8], broken: bool, records: usize) -> usize
     requires { room ≤ length to.old }
-    ensures { Opens result (brokenLine broken records) to.new }
+    ensures { Opens result (broken_line broken records) to.new }
 {
     if !broken {
         return 0;
@@ -225,7 +225,7 @@ fn broken_line(to: &mut [u8], broken: bool, records: usize) -> usize
 
 fn end_line(to: &mut [u8], records: usize, t: Tally) -> usize
     requires { room ≤ length to.old }
-    ensures { Opens result (lastLine records t) to.new }
+    ensures { Opens result (last_line records t) to.new }
 {
     let ones = tally::sum_of_ones(t);
     wording::end_line(to, records, ones, t.border, t.none, t.several)
@@ -234,7 +234,7 @@ fn end_line(to: &mut [u8], records: usize, t: Tally) -> usize
 // The lines behind those of the records, and how long they are: none where a read or a write failed.
 fn last_lines(to: &mut [u8], d: Reading) -> usize
     requires { length to.old ≡ piece }
-    ensures { Opens result (lastText d) to.new }
+    ensures { Opens result (last_text d) to.new }
 {
     if d.failed {
         return 0;

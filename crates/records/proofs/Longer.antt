@@ -13,9 +13,9 @@ use Rattle.ring.specs.Choices.{pick}
 use Rattle.ring.proofs.Pick.{pick-false}
 use Rattle.register.specs.declared.Position.TheVariants.{Grid, Fix, Missing}
 use Rattle.history.specs.Histories.{Call, founding, splitting, merging, reporting}
-use Rattle.records.specs.Bytes.{littleEndian, field, signed, signedFields}
-use Rattle.records.specs.Layout.{Front, whole, more, broken, firstMark, secondMark, from, up_to, outlineFront, splitFront, mergeFront, gridFront, fixFront, positionFront, by_kind, front}
-use Rattle.records.proofs.Fronts.{byWhat}
+use Rattle.records.specs.Bytes.{little_endian, field, signed, signed_fields}
+use Rattle.records.specs.Layout.{Front, whole, more, broken, first_mark, second_mark, from, up_to, outline_front, split_front, merge_front, grid_front, fix_front, position_front, by_kind, front}
+use Rattle.records.proofs.Fronts.{by_what}
 
 -- what is decided stays
 abbrev Keeps : Front → Front → Type 0
@@ -34,11 +34,11 @@ module _ (bytes rest : List ℕ) where
 
   field-same : (at width : ℕ) → at + width ≤ length bytes → field all at width ≡ field bytes at width
   field-same at width h =
-      ap (λ l. littleEndian (take width l)) (drop-append-le at bytes rest (omega (arith, h)))
-      ∙ ap littleEndian (take-append-le width (drop at bytes) rest (omega (arith, h, length-drop at bytes)))
+      ap (λ l. little_endian (take width l)) (drop-append-le at bytes rest (omega (arith, h)))
+      ∙ ap little_endian (take-append-le width (drop at bytes) rest (omega (arith, h, length-drop at bytes)))
 
-  signed_same : (m at : ℕ) → at + 4 * m ≤ length bytes → signedFields all at m ≡ signedFields bytes at m
-  unfolding signedFields
+  signed_same : (m at : ℕ) → at + 4 * m ≤ length bytes → signed_fields all at m ≡ signed_fields bytes at m
+  unfolding signed_fields
   signed_same zero at h = refl
   signed_same (suc m) at h = λ i. signed (field-same at 4 (omega (arith, h)) i) ∷ signed_same m (at + 4) (omega (arith, h)) i
 
@@ -56,20 +56,20 @@ module _ (bytes rest : List ℕ) where
 
   -- ---- by kind
 
-  keeps-outline : Keeps (outlineFront bytes) (outlineFront all)
+  keeps-outline : Keeps (outline_front bytes) (outline_front all)
   keeps-outline = keeps-from 5 (behind bytes (field bytes 3 2)) (behind all (field all 3 2)) (λ h. subst (λ n. Keeps (behind bytes (field bytes 3 2)) (behind all n)) (sym (field-same 3 2 h)) (same (field bytes 3 2)))
     where
       behind : List ℕ → ℕ → Front
-      behind l n = pick (ltb 2048 n) broken (up_to l (5 + 8 * n) (founding (signedFields l 5 (2 * n))))
+      behind l n = pick (ltb 2048 n) broken (up_to l (5 + 8 * n) (founding (signed_fields l 5 (2 * n))))
 
       same : (n : ℕ) → Keeps (behind bytes n) (behind all n)
       same n = keeps-pick (ltb 2048 n) broken broken _ _ refl (keeps-up-to (5 + 8 * n) _ _ (λ h. ap founding (sym (signed_same (2 * n) 5 (omega (arith, h))))))
 
-  keeps-split : Keeps (splitFront bytes) (splitFront all)
+  keeps-split : Keeps (split_front bytes) (split_front all)
   keeps-split = keeps-from 10 (behind bytes (field bytes 8 2)) (behind all (field all 8 2)) (λ h. subst (λ k. Keeps (behind bytes (field bytes 8 2)) (behind all k)) (sym (field-same 8 2 h)) (same (field bytes 8 2)))
     where
       behind : List ℕ → ℕ → Front
-      behind l k = pick (ltb 2048 k) broken (up_to l (10 + 8 * k) (splitting (field l 3 1) (field l 4 2) (field l 6 2) (signedFields l 10 (2 * k))))
+      behind l k = pick (ltb 2048 k) broken (up_to l (10 + 8 * k) (splitting (field l 3 1) (field l 4 2) (field l 6 2) (signed_fields l 10 (2 * k))))
 
       same : (k : ℕ) → Keeps (behind bytes k) (behind all k)
       same k =
@@ -80,7 +80,7 @@ module _ (bytes rest : List ℕ) where
           let path = signed_same (2 * k) 10 (omega (arith, h)) in
           λ t. splitting (sym d t) (sym i t) (sym j t) (sym path t)))
 
-  keeps_merge : Keeps (mergeFront bytes) (mergeFront all)
+  keeps_merge : Keeps (merge_front bytes) (merge_front all)
   keeps_merge =
       keeps-up-to 11 _ _ (λ h.
       let A = field-same 3 1 (omega (arith, h)) in
@@ -90,7 +90,7 @@ module _ (bytes rest : List ℕ) where
       let k = field-same 9 2 (omega (arith, h)) in
       λ t. merging (sym A t) (sym a t) (sym B t) (sym b t) (sym k t))
 
-  keeps-grid : (at : ℕ) → 7 ≤ at → Keeps (gridFront bytes at) (gridFront all at)
+  keeps-grid : (at : ℕ) → 7 ≤ at → Keeps (grid_front bytes at) (grid_front all at)
   keeps-grid at behind =
       keeps-up-to (at + 8) _ _ (λ h.
       let r = field-same 3 4 (omega (arith, h, behind)) in
@@ -98,7 +98,7 @@ module _ (bytes rest : List ℕ) where
       let y = field-same (at + 4) 4 (omega (arith, h)) in
       λ t. reporting (sym r t) (Grid (signed (sym x t)) (signed (sym y t))))
 
-  keeps-fix : Keeps (fixFront bytes 8) (fixFront all 8)
+  keeps-fix : Keeps (fix_front bytes 8) (fix_front all 8)
   keeps-fix =
       keeps-up-to 24 _ _ (λ h.
       let r = field-same 3 4 (omega (arith, h)) in
@@ -106,13 +106,13 @@ module _ (bytes rest : List ℕ) where
       let y = field-same 16 8 (omega (arith, h)) in
       λ t. reporting (sym r t) (Fix (record { easting = of_bits binary64 (sym x t); northing = of_bits binary64 (sym y t) })))
 
-  keeps-position : Keeps (positionFront bytes) (positionFront all)
-  keeps-position = keeps-from 8 (byWhat (field bytes 7 1) bytes) (byWhat (field all 7 1) all) (λ h. subst (λ w. Keeps (byWhat (field bytes 7 1) bytes) (byWhat w all)) (sym (field-same 7 1 h)) (same (field bytes 7 1)))
+  keeps-position : Keeps (position_front bytes) (position_front all)
+  keeps-position = keeps-from 8 (by_what (field bytes 7 1) bytes) (by_what (field all 7 1) all) (λ h. subst (λ w. Keeps (by_what (field bytes 7 1) bytes) (by_what w all)) (sym (field-same 7 1 h)) (same (field bytes 7 1)))
     where
       missing : Keeps (up_to bytes 8 (reporting (field bytes 3 4) Missing)) (up_to all 8 (reporting (field all 3 4) Missing))
       missing = keeps-up-to 8 _ _ (λ h. ap (λ r. reporting r Missing) (sym (field-same 3 4 (omega (arith, h)))))
 
-      same : (w : ℕ) → Keeps (byWhat w bytes) (byWhat w all)
+      same : (w : ℕ) → Keeps (by_what w bytes) (by_what w all)
       same w =
           keeps-pick (eqb w 0) _ _ _ _ missing
           (keeps-pick (eqb w 1) _ _ _ _ (keeps-grid 8 (omega arith))
@@ -135,10 +135,10 @@ module _ (bytes rest : List ℕ) where
       subst (Keeps (headed bytes (field bytes 0 1) (field bytes 1 1) (field bytes 2 1))) (λ t. headed all (sym first t) (sym second t) (sym kind t)) (same (field bytes 0 1) (field bytes 1 1) (field bytes 2 1)))
     where
       headed : List ℕ → ℕ → ℕ → ℕ → Front
-      headed l a b kind = pick (not (eqb a firstMark && eqb b secondMark)) broken (by_kind kind l)
+      headed l a b kind = pick (not (eqb a first_mark && eqb b second_mark)) broken (by_kind kind l)
 
       same : (a b kind : ℕ) → Keeps (headed bytes a b kind) (headed all a b kind)
-      same a b kind = keeps-pick (not (eqb a firstMark && eqb b secondMark)) broken broken _ _ refl (keeps-kind kind)
+      same a b kind = keeps-pick (not (eqb a first_mark && eqb b second_mark)) broken broken _ _ refl (keeps-kind kind)
 
 pub whole-longer : (bytes rest : List ℕ) (c : Call) (n : ℕ) → front bytes ≡ whole c n → front (bytes ++ rest) ≡ whole c n
 whole-longer bytes rest c n e = subst (λ f. Keeps f (front (bytes ++ rest))) e (keeps-front bytes rest)

@@ -17,32 +17,32 @@ use Rattle.fixes.specs.declared.Fix as Fixes
 use Rattle.register.specs.declared.Position.{Position}
 use Rattle.register.specs.declared.Position.TheVariants.{Grid, Fix, Missing}
 use Rattle.history.specs.Histories.{Call, founding, splitting, merging, reporting}
-use Rattle.records.specs.Bytes.{littleEndian, field, signed, signedFields}
-use Rattle.records.specs.Layout.{whole, broken, up_to, gridFront, fixFront, front}
-use Rattle.records.specs.Encoding.{inFront, bits, allInFront, positionInFront, encodePosition, encodeReport, encode, Fits, AllFit, Sendable, Encodable}
+use Rattle.records.specs.Bytes.{little_endian, field, signed, signed_fields}
+use Rattle.records.specs.Layout.{whole, broken, up_to, grid_front, fix_front, front}
+use Rattle.records.specs.Encoding.{in_front, bits, all_in_front, position_in_front, encode_position, encode_report, encode, Fits, AllFit, Sendable, Encodable}
 use Rattle.records.proofs.Fronts.{enough, announced-few}
 
 -- ---- fields
 
-number-back : (w n : ℕ) (rest : List ℕ) → n < 256 ^ w → littleEndian (take w (inFront w n rest)) ≡ n
-unfolding littleEndian inFront
+number-back : (w n : ℕ) (rest : List ℕ) → n < 256 ^ w → little_endian (take w (in_front w n rest)) ≡ n
+unfolding little_endian in_front
 number-back zero n rest h = omega arith
 number-back (suc w) n rest h = let e = number-back w (n / 256) rest (omega (arith, pow-succ' 256 w)) in omega (arith, e)
 
-number-long : (w n : ℕ) (rest : List ℕ) → length (inFront w n rest) ≡ w + length rest
-unfolding inFront
+number-long : (w n : ℕ) (rest : List ℕ) → length (in_front w n rest) ≡ w + length rest
+unfolding in_front
 number-long zero n rest = omega arith
 number-long (suc w) n rest = let e = number-long w (n / 256) rest in omega (arith, e)
 
-number-left : (w n : ℕ) (rest : List ℕ) → drop w (inFront w n rest) ≡ rest
-unfolding inFront
+number-left : (w n : ℕ) (rest : List ℕ) → drop w (in_front w n rest) ≡ rest
+unfolding in_front
 number-left zero n rest = refl
 number-left (suc w) n rest = number-left w (n / 256) rest
 
 -- a number read from where it stands, and what stands behind it
-module _ (w n : ℕ) (bytes rest : List ℕ) (at : ℕ) (e : drop at bytes ≡ inFront w n rest) where
+module _ (w n : ℕ) (bytes rest : List ℕ) (at : ℕ) (e : drop at bytes ≡ in_front w n rest) where
   read_back : n < 256 ^ w → field bytes at w ≡ n
-  read_back h = ap (λ l. littleEndian (take w l)) e ∙ number-back w n rest h
+  read_back h = ap (λ l. little_endian (take w l)) e ∙ number-back w n rest h
 
   left_behind : drop (at + w) bytes ≡ rest
   left_behind = sym (drop-drop w at bytes) ∙ ap (drop w) e ∙ number-left w n rest
@@ -56,23 +56,23 @@ signed-bits (pos n) h = pick_true (lt-ltb n 2147483648 h) _ _
 signed-bits (negsuc n) h = pick-false (le-ltb (4294967295 - n) 2147483648 (omega arith)) _ _ ∙ ap negsuc (omega arith)
 
 -- so many signed numbers, read from where they stand
-all_back : (xs : List ℤ) (bytes rest : List ℕ) (at : ℕ) → drop at bytes ≡ allInFront xs rest → AllFit xs → signedFields bytes at (length xs) ≡ xs
-unfolding signedFields allInFront
+all_back : (xs : List ℤ) (bytes rest : List ℕ) (at : ℕ) → drop at bytes ≡ all_in_front xs rest → AllFit xs → signed_fields bytes at (length xs) ≡ xs
+unfolding signed_fields all_in_front
 all_back [] bytes rest at e fit = refl
 all_back (x ∷ xs) bytes rest at e fit =
-    let behind = allInFront xs rest in
+    let behind = all_in_front xs rest in
     let here = read_back 4 (bits x) bytes behind at e (bits_most x fit.0) in
     λ t. (ap signed here ∙ signed-bits x fit.0) t ∷ all_back xs bytes rest (at + 4) (left_behind 4 (bits x) bytes behind at e) fit.1 t
 
-all-long : (xs : List ℤ) (rest : List ℕ) → length (allInFront xs rest) ≡ 4 * length xs + length rest
-unfolding allInFront
+all-long : (xs : List ℤ) (rest : List ℕ) → length (all_in_front xs rest) ≡ 4 * length xs + length rest
+unfolding all_in_front
 all-long [] rest = omega arith
-all-long (x ∷ xs) rest = omega (arith, number-long 4 (bits x) (allInFront xs rest), all-long xs rest)
+all-long (x ∷ xs) rest = omega (arith, number-long 4 (bits x) (all_in_front xs rest), all-long xs rest)
 
 -- ---- records
 
 merge-back : (A a B b k : ℕ) (rest : List ℕ) → Encodable (merging A a B b k) → front (encode (merging A a B b k) rest) ≡ whole (merging A a B b k) 11
-unfolding front encode inFront littleEndian
+unfolding front encode in_front little_endian
 merge-back A a B b k rest h =
     let bytes = encode (merging A a B b k) rest in
     enough bytes 3 _ (omega arith)
@@ -80,7 +80,7 @@ merge-back A a B b k rest h =
     ∙ (λ t. whole (merging (number-back 1 A [] h.0 t) (number-back 2 a [] h.1 t) (number-back 1 B [] h.2 t) (number-back 2 b [] h.3 t) (number-back 2 k [] h.4 t)) 11)
 
 split-back : (d i j : ℕ) (path : List ℤ) (rest : List ℕ) → Encodable (splitting d i j path) → front (encode (splitting d i j path) rest) ≡ whole (splitting d i j path) (10 + 8 * (length path / 2))
-unfolding front encode inFront littleEndian
+unfolding front encode in_front little_endian
 split-back d i j path rest h =
     let bytes = encode (splitting d i j path) rest in
     let pairs = h.3 in
@@ -89,13 +89,13 @@ split-back d i j path rest h =
     let twice : 2 * k ≡ length path = omega (arith, pairs.even) in
     enough bytes 3 _ (omega arith)
     ∙ enough bytes 10 _ (omega arith)
-    ∙ (λ t. pick (ltb 2048 (announced t)) broken (up_to bytes (10 + 8 * announced t) (splitting (number-back 1 d [] h.0 t) (number-back 2 i [] h.1 t) (number-back 2 j [] h.2 t) (signedFields bytes 10 (2 * announced t)))))
+    ∙ (λ t. pick (ltb 2048 (announced t)) broken (up_to bytes (10 + 8 * announced t) (splitting (number-back 1 d [] h.0 t) (number-back 2 i [] h.1 t) (number-back 2 j [] h.2 t) (signed_fields bytes 10 (2 * announced t)))))
     ∙ announced-few k _ pairs.most
     ∙ enough bytes (10 + 8 * k) _ (omega (arith, all-long path rest, pairs.even))
-    ∙ (λ t. whole (splitting d i j ((ap (signedFields bytes 10) twice ∙ all_back path bytes rest 10 refl pairs.fit) t)) (10 + 8 * k))
+    ∙ (λ t. whole (splitting d i j ((ap (signed_fields bytes 10) twice ∙ all_back path bytes rest 10 refl pairs.fit) t)) (10 + 8 * k))
 
 found_back : (xs : List ℤ) (rest : List ℕ) → Encodable (founding xs) → front (encode (founding xs) rest) ≡ whole (founding xs) (5 + 8 * (length xs / 2))
-unfolding front encode inFront littleEndian
+unfolding front encode in_front little_endian
 found_back xs rest pairs =
     let bytes = encode (founding xs) rest in
     let n = length xs / 2 in
@@ -103,31 +103,31 @@ found_back xs rest pairs =
     let twice : 2 * n ≡ length xs = omega (arith, pairs.even) in
     enough bytes 3 _ (omega arith)
     ∙ enough bytes 5 _ (omega arith)
-    ∙ (λ t. pick (ltb 2048 (announced t)) broken (up_to bytes (5 + 8 * announced t) (founding (signedFields bytes 5 (2 * announced t)))))
+    ∙ (λ t. pick (ltb 2048 (announced t)) broken (up_to bytes (5 + 8 * announced t) (founding (signed_fields bytes 5 (2 * announced t)))))
     ∙ announced-few n _ pairs.most
     ∙ enough bytes (5 + 8 * n) _ (omega (arith, all-long xs rest, pairs.even))
-    ∙ (λ t. whole (founding ((ap (signedFields bytes 5) twice ∙ all_back xs bytes rest 5 refl pairs.fit) t)) (5 + 8 * n))
+    ∙ (λ t. whole (founding ((ap (signed_fields bytes 5) twice ∙ all_back xs bytes rest 5 refl pairs.fit) t)) (5 + 8 * n))
 
 -- ---- reports
 
 -- two values of so many bytes end the bytes of a report
-module _ (w m n : ℕ) (bytes rest : List ℕ) (at : ℕ) (e : drop at bytes ≡ inFront w m (inFront w n rest)) where
+module _ (w m n : ℕ) (bytes rest : List ℕ) (at : ℕ) (e : drop at bytes ≡ in_front w m (in_front w n rest)) where
   first_back : m < 256 ^ w → field bytes at w ≡ m
-  first_back = read_back w m bytes (inFront w n rest) at e
+  first_back = read_back w m bytes (in_front w n rest) at e
 
   second_back : n < 256 ^ w → field bytes (at + w) w ≡ n
-  second_back = read_back w n bytes rest (at + w) (left_behind w m bytes (inFront w n rest) at e)
+  second_back = read_back w n bytes rest (at + w) (left_behind w m bytes (in_front w n rest) at e)
 
   both-there : 0 < w → at + (w + w) ≤ length bytes
-  both-there h = omega (arith, h, ap length e, length-drop at bytes, number-long w m (inFront w n rest), number-long w n rest)
+  both-there h = omega (arith, h, ap length e, length-drop at bytes, number-long w m (in_front w n rest), number-long w n rest)
 
-grid-back : (r : ℕ) (x y : ℤ) (bytes rest : List ℕ) (at : ℕ) → field bytes 3 4 ≡ r → drop at bytes ≡ inFront 4 (bits x) (inFront 4 (bits y) rest) → Sendable (Grid x y) → gridFront bytes at ≡ whole (reporting r (Grid x y)) (at + 8)
+grid-back : (r : ℕ) (x y : ℤ) (bytes rest : List ℕ) (at : ℕ) → field bytes 3 4 ≡ r → drop at bytes ≡ in_front 4 (bits x) (in_front 4 (bits y) rest) → Sendable (Grid x y) → grid_front bytes at ≡ whole (reporting r (Grid x y)) (at + 8)
 grid-back r x y bytes rest at number e h =
     let across = ap signed (first_back 4 (bits x) (bits y) bytes rest at e (bits_most x h.0)) ∙ signed-bits x h.0 in
     let up = ap signed (second_back 4 (bits x) (bits y) bytes rest at e (bits_most y h.1)) ∙ signed-bits y h.1 in
     enough bytes (at + 8) _ (both-there 4 (bits x) (bits y) bytes rest at e (omega arith)) ∙ (λ t. whole (reporting (number t) (Grid (across t) (up t))) (at + 8))
 
-fix-back : (r : ℕ) (f : Fixes.Fix) (bytes rest : List ℕ) (at : ℕ) → field bytes 3 4 ≡ r → drop at bytes ≡ inFront 8 (to_bits binary64 f.easting) (inFront 8 (to_bits binary64 f.northing) rest) → Sendable (Fix f) → fixFront bytes at ≡ whole (reporting r (Fix f)) (at + 16)
+fix-back : (r : ℕ) (f : Fixes.Fix) (bytes rest : List ℕ) (at : ℕ) → field bytes 3 4 ≡ r → drop at bytes ≡ in_front 8 (to_bits binary64 f.easting) (in_front 8 (to_bits binary64 f.northing) rest) → Sendable (Fix f) → fix_front bytes at ≡ whole (reporting r (Fix f)) (at + 16)
 fix-back r f bytes rest at number e h =
     let m = to_bits binary64 f.easting in
     let n = to_bits binary64 f.northing in
@@ -136,33 +136,33 @@ fix-back r f bytes rest at number e h =
     enough bytes (at + 16) _ (both-there 8 m n bytes rest at e (omega arith)) ∙ (λ t. whole (reporting (number t) (Fix (record { easting = east t; northing = north t }))) (at + 16))
 
 -- how many bytes kind 5 has
-abbrev pub positionLong : Position → ℕ
-positionLong (Grid x y) = 16
-positionLong (Fix f) = 24
-positionLong Missing = 8
+abbrev pub position_long : Position → ℕ
+position_long (Grid x y) = 16
+position_long (Fix f) = 24
+position_long Missing = 8
 
 -- kind 5 carries every position, a grid position too
-pub position-back : (r : ℕ) (p : Position) (rest : List ℕ) → r < 4294967296 → Sendable p → front (encodePosition r p rest) ≡ whole (reporting r p) (positionLong p)
-unfolding front encodePosition positionInFront inFront littleEndian
+pub position-back : (r : ℕ) (p : Position) (rest : List ℕ) → r < 4294967296 → Sendable p → front (encode_position r p rest) ≡ whole (reporting r p) (position_long p)
+unfolding front encode_position position_in_front in_front little_endian
 position-back r (Grid x y) rest small h =
-    let bytes = encodePosition r (Grid x y) rest in
+    let bytes = encode_position r (Grid x y) rest in
     enough bytes 3 _ (omega arith) ∙ enough bytes 8 _ (omega arith) ∙ grid-back r x y bytes rest 8 (number-back 4 r [] small) refl h
 position-back r (Fix f) rest small h =
-    let bytes = encodePosition r (Fix f) rest in
+    let bytes = encode_position r (Fix f) rest in
     enough bytes 3 _ (omega arith) ∙ enough bytes 8 _ (omega arith) ∙ fix-back r f bytes rest 8 (number-back 4 r [] small) refl h
 position-back r Missing rest small h =
-    let bytes = encodePosition r Missing rest in
+    let bytes = encode_position r Missing rest in
     enough bytes 3 _ (omega arith) ∙ enough bytes 8 _ (omega arith) ∙ enough bytes 8 _ (omega arith) ∙ ap (λ n. whole (reporting n Missing) 8) (number-back 4 r [] small)
 
-abbrev reportLong : Position → ℕ
-reportLong (Grid x y) = 15
-reportLong (Fix f) = positionLong (Fix f)
-reportLong Missing = positionLong Missing
+abbrev report_long : Position → ℕ
+report_long (Grid x y) = 15
+report_long (Fix f) = position_long (Fix f)
+report_long Missing = position_long Missing
 
-report-back : (r : ℕ) (p : Position) (rest : List ℕ) → Encodable (reporting r p) → front (encodeReport r p rest) ≡ whole (reporting r p) (reportLong p)
-unfolding front encodeReport inFront littleEndian
+report-back : (r : ℕ) (p : Position) (rest : List ℕ) → Encodable (reporting r p) → front (encode_report r p rest) ≡ whole (reporting r p) (report_long p)
+unfolding front encode_report in_front little_endian
 report-back r (Grid x y) rest h =
-    let bytes = encodeReport r (Grid x y) rest in
+    let bytes = encode_report r (Grid x y) rest in
     enough bytes 3 _ (omega arith) ∙ grid-back r x y bytes rest 7 (number-back 4 r [] h.0) refl h.1
 report-back r (Fix f) rest h = position-back r (Fix f) rest h.0 h.1
 report-back r Missing rest h = position-back r Missing rest h.0 h.1
@@ -174,16 +174,16 @@ long : Call → ℕ
 long (founding xs) = 5 + 8 * (length xs / 2)
 long (splitting d i j path) = 10 + 8 * (length path / 2)
 long (merging A a B b k) = 11
-long (reporting r p) = reportLong p
+long (reporting r p) = report_long p
 
-report-long : (r : ℕ) (p : Position) → reportLong p ≡ length (encodeReport r p [])
-unfolding encodeReport encodePosition positionInFront inFront
+report-long : (r : ℕ) (p : Position) → report_long p ≡ length (encode_report r p [])
+unfolding encode_report encode_position position_in_front in_front
 report-long r (Grid x y) = refl
 report-long r (Fix f) = refl
 report-long r Missing = refl
 
 long-is : (c : Call) → Encodable c → long c ≡ length (encode c [])
-unfolding long encode inFront
+unfolding long encode in_front
 long-is (founding xs) h = omega (arith, all-long xs [], h.even)
 long-is (splitting d i j path) h = omega (arith, all-long path [], h.3.even)
 long-is (merging A a B b k) h = refl

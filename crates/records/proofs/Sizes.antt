@@ -10,7 +10,7 @@ use borrow.Author.Tests.{ltb-false}
 use Rattle.ring.specs.Choices.{pick}
 use Rattle.history.specs.Histories.{Call}
 use Rattle.records.specs.Bytes.{field}
-use Rattle.records.specs.Layout.{Front, whole, more, broken, firstMark, secondMark, from, up_to, outlineFront, splitFront, positionFront, by_kind, front}
+use Rattle.records.specs.Layout.{Front, whole, more, broken, first_mark, second_mark, from, up_to, outline_front, split_front, position_front, by_kind, front}
 
 -- a split of 2,048 points is the longest record
 pub record Size (bytes : List ℕ) (n : ℕ) : Type 0 where
@@ -37,13 +37,13 @@ sized-up-to bytes n c least most = sized-from bytes n (whole c n) (λ there. rec
 sized-announced : (bytes : List ℕ) (n : ℕ) (f : Front) → (n ≤ 2048 → Sized bytes f) → Sized bytes (pick (ltb 2048 n) broken f)
 sized-announced bytes n f h = either (Sized bytes) (ltb 2048 n) broken f (λ e. tt) (λ e. h (ltb-false 2048 n e))
 
-sized-outline : (bytes : List ℕ) → Sized bytes (outlineFront bytes)
+sized-outline : (bytes : List ℕ) → Sized bytes (outline_front bytes)
 sized-outline bytes = sized-from bytes 5 _ (λ h. sized-announced bytes (field bytes 3 2) _ (λ few. sized-up-to bytes (5 + 8 * field bytes 3 2) _ (omega arith) (omega (arith, few))))
 
-sized-split : (bytes : List ℕ) → Sized bytes (splitFront bytes)
+sized-split : (bytes : List ℕ) → Sized bytes (split_front bytes)
 sized-split bytes = sized-from bytes 10 _ (λ h. sized-announced bytes (field bytes 8 2) _ (λ few. sized-up-to bytes (10 + 8 * field bytes 8 2) _ (omega arith) (omega (arith, few))))
 
-sized-position : (bytes : List ℕ) → Sized bytes (positionFront bytes)
+sized-position : (bytes : List ℕ) → Sized bytes (position_front bytes)
 sized-position bytes =
     let what = field bytes 7 1 in
     sized-from bytes 8 _ (λ h.
@@ -62,7 +62,7 @@ sized-kind bytes kind =
 sized-front : (bytes : List ℕ) → Sized bytes (front bytes)
 unfolding front
 sized-front bytes =
-    let unmarked = not (eqb (field bytes 0 1) firstMark && eqb (field bytes 1 1) secondMark) in
+    let unmarked = not (eqb (field bytes 0 1) first_mark && eqb (field bytes 1 1) second_mark) in
     let kinded = by_kind (field bytes 2 1) bytes in
     sized-from bytes 3 (pick unmarked broken kinded) (λ h. either (Sized bytes) unmarked broken kinded (λ e. tt) (λ e. sized-kind bytes (field bytes 2 1)))
 

@@ -9,21 +9,21 @@ use Rattle.records.specs.declared.Decoded.{Decoded}
 use Rattle.records.specs.declared.Front as Code
 use Rattle.records.specs.declared.Front.TheVariants.{Outline, Split, Merge, Report, More, Broken}
 use Rattle.records.specs.Layout.{Front, whole, more, broken}
-use Rattle.records.specs.Decoding.{frontOf, Decodes}
+use Rattle.records.specs.Decoding.{front_of, Decodes}
 
 -- the code's answer read back
-abbrev ofCall : Call → ℕ → Code.Front
-ofCall (founding xs) n = Outline ((n - 5) / 8)
-ofCall (splitting d i j path) n = Split d i j ((n - 10) / 8)
-ofCall (merging A a B b k) n = Merge A a B b k
-ofCall (reporting r p) n = Report (record { number = r; position = p })
+abbrev of_call : Call → ℕ → Code.Front
+of_call (founding xs) n = Outline ((n - 5) / 8)
+of_call (splitting d i j path) n = Split d i j ((n - 10) / 8)
+of_call (merging A a B b k) n = Merge A a B b k
+of_call (reporting r p) n = Report (record { number = r; position = p })
 
 abbrev code_of : Front → Code.Front
-code_of (whole c n) = ofCall c n
+code_of (whole c n) = of_call c n
 code_of more = More
 code_of broken = Broken
 
-code-back : (q : Code.Front) (taken : ℕ) (to : List ℤ) → code_of (frontOf q taken to) ≡ q
+code-back : (q : Code.Front) (taken : ℕ) (to : List ℤ) → code_of (front_of q taken to) ≡ q
 code-back (Outline n) taken to = ap Outline (omega arith)
 code-back (Split d i j k) taken to = ap (Split d i j) (omega arith)
 code-back (Merge A a B b k) taken to = refl

@@ -8,34 +8,34 @@ use Rattle.records.specs.declared.Front.TheVariants.{Outline, Split, Merge, Repo
 use Rattle.records.specs.Layout.{Front, whole, more, broken}
 
 -- the coordinates are read off the lent list; a record with coordinates has as many bytes as its count tells, another as many as are taken
-abbrev pub frontOf : Code.Front → ℕ → List ℤ → Front
-frontOf (Outline n) taken to = whole (founding (take (2 * n) to)) (5 + 8 * n)
-frontOf (Split d i j k) taken to = whole (splitting d i j (take (2 * k) to)) (10 + 8 * k)
-frontOf (Merge A a B b k) taken to = whole (merging A a B b k) taken
-frontOf (Report s) taken to = whole (reporting s.number s.position) taken
-frontOf More taken to = more
-frontOf Broken taken to = broken
+abbrev pub front_of : Code.Front → ℕ → List ℤ → Front
+front_of (Outline n) taken to = whole (founding (take (2 * n) to)) (5 + 8 * n)
+front_of (Split d i j k) taken to = whole (splitting d i j (take (2 * k) to)) (10 + 8 * k)
+front_of (Merge A a B b k) taken to = whole (merging A a B b k) taken
+front_of (Report s) taken to = whole (reporting s.number s.position) taken
+front_of More taken to = more
+front_of Broken taken to = broken
 
 -- how many bytes are taken
-abbrev pub takenFor : Front → ℕ
-takenFor (whole c n) = n
-takenFor more = 0
-takenFor broken = 0
+abbrev pub taken_for : Front → ℕ
+taken_for (whole c n) = n
+taken_for more = 0
+taken_for broken = 0
 
 -- the coordinates of a call
-abbrev pub pairsOf : Call → List ℤ
-pairsOf (founding xs) = xs
-pairsOf (splitting d i j path) = path
-pairsOf (merging A a B b k) = []
-pairsOf (reporting r p) = []
+abbrev pub pairs_of : Call → List ℤ
+pairs_of (founding xs) = xs
+pairs_of (splitting d i j path) = path
+pairs_of (merging A a B b k) = []
+pairs_of (reporting r p) = []
 
-abbrev pub writtenFor : Front → List ℤ
-writtenFor (whole c n) = pairsOf c
-writtenFor more = []
-writtenFor broken = []
+abbrev pub written_for : Front → List ℤ
+written_for (whole c n) = pairs_of c
+written_for more = []
+written_for broken = []
 
 -- the answer is what stands there, with its bytes counted, and the lent list starts with its coordinates and holds after them what it held
 pub record Decodes (r : Decoded) (f : Front) (before after : List ℤ) : Type 0 where
-  pub said : frontOf r.front r.taken after ≡ f
-  pub counted : r.taken ≡ takenFor f
-  pub left : after ≡ written (writtenFor f) before
+  pub said : front_of r.front r.taken after ≡ f
+  pub counted : r.taken ≡ taken_for f
+  pub left : after ≡ written (written_for f) before

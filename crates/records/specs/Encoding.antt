@@ -5,44 +5,44 @@ use Rattle.std.specs.Float.Ieee.{to_bits, fits}
 use Rattle.register.specs.declared.Position.{Position}
 use Rattle.register.specs.declared.Position.TheVariants.{Grid, Fix, Missing}
 use Rattle.history.specs.Histories.{Call, founding, splitting, merging, reporting}
-use Rattle.ring.specs.Grid.{mostVertices}
-use Rattle.records.specs.Layout.{firstMark, secondMark}
+use Rattle.ring.specs.Grid.{most_vertices}
+use Rattle.records.specs.Layout.{first_mark, second_mark}
 
 -- a number in so many bytes, the least first
-unfoldable pub inFront : ℕ → ℕ → List ℕ → List ℕ
-inFront zero n rest = rest
-inFront (suc w) n rest = n % 256 ∷ inFront w (n / 256) rest
+unfoldable pub in_front : ℕ → ℕ → List ℕ → List ℕ
+in_front zero n rest = rest
+in_front (suc w) n rest = n % 256 ∷ in_front w (n / 256) rest
 
 -- the 32 bits of a signed number
 abbrev pub bits : ℤ → ℕ
 bits (pos n) = n
 bits (negsuc n) = 4294967295 - n
 
-unfoldable pub allInFront : List ℤ → List ℕ → List ℕ
-allInFront [] rest = rest
-allInFront (x ∷ xs) rest = inFront 4 (bits x) (allInFront xs rest)
+unfoldable pub all_in_front : List ℤ → List ℕ → List ℕ
+all_in_front [] rest = rest
+all_in_front (x ∷ xs) rest = in_front 4 (bits x) (all_in_front xs rest)
 
 -- a position in kind 5: a byte that says which of the three it is, and its values
-unfoldable pub positionInFront : Position → List ℕ → List ℕ
-positionInFront Missing rest = 0 ∷ rest
-positionInFront (Grid x y) rest = 1 ∷ inFront 4 (bits x) (inFront 4 (bits y) rest)
-positionInFront (Fix f) rest = 2 ∷ inFront 8 (to_bits binary64 f.easting) (inFront 8 (to_bits binary64 f.northing) rest)
+unfoldable pub position_in_front : Position → List ℕ → List ℕ
+position_in_front Missing rest = 0 ∷ rest
+position_in_front (Grid x y) rest = 1 ∷ in_front 4 (bits x) (in_front 4 (bits y) rest)
+position_in_front (Fix f) rest = 2 ∷ in_front 8 (to_bits binary64 f.easting) (in_front 8 (to_bits binary64 f.northing) rest)
 
 -- a report as kind 5
-unfoldable pub encodePosition : ℕ → Position → List ℕ → List ℕ
-encodePosition r p rest = firstMark ∷ secondMark ∷ 5 ∷ inFront 4 r (positionInFront p rest)
+unfoldable pub encode_position : ℕ → Position → List ℕ → List ℕ
+encode_position r p rest = first_mark ∷ second_mark ∷ 5 ∷ in_front 4 r (position_in_front p rest)
 
 -- a report with a grid position is kind 4, which is shorter; as kind 5 it says the same
-unfoldable pub encodeReport : ℕ → Position → List ℕ → List ℕ
-encodeReport r (Grid x y) rest = firstMark ∷ secondMark ∷ 4 ∷ inFront 4 r (inFront 4 (bits x) (inFront 4 (bits y) rest))
-encodeReport r (Fix f) rest = encodePosition r (Fix f) rest
-encodeReport r Missing rest = encodePosition r Missing rest
+unfoldable pub encode_report : ℕ → Position → List ℕ → List ℕ
+encode_report r (Grid x y) rest = first_mark ∷ second_mark ∷ 4 ∷ in_front 4 r (in_front 4 (bits x) (in_front 4 (bits y) rest))
+encode_report r (Fix f) rest = encode_position r (Fix f) rest
+encode_report r Missing rest = encode_position r Missing rest
 
 unfoldable pub encode : Call → List ℕ → List ℕ
-encode (founding xs) rest = firstMark ∷ secondMark ∷ 1 ∷ inFront 2 (length xs / 2) (allInFront xs rest)
-encode (splitting d i j path) rest = firstMark ∷ secondMark ∷ 2 ∷ inFront 1 d (inFront 2 i (inFront 2 j (inFront 2 (length path / 2) (allInFront path rest))))
-encode (merging A a B b k) rest = firstMark ∷ secondMark ∷ 3 ∷ inFront 1 A (inFront 2 a (inFront 1 B (inFront 2 b (inFront 2 k rest))))
-encode (reporting r p) rest = encodeReport r p rest
+encode (founding xs) rest = first_mark ∷ second_mark ∷ 1 ∷ in_front 2 (length xs / 2) (all_in_front xs rest)
+encode (splitting d i j path) rest = first_mark ∷ second_mark ∷ 2 ∷ in_front 1 d (in_front 2 i (in_front 2 j (in_front 2 (length path / 2) (all_in_front path rest))))
+encode (merging A a B b k) rest = first_mark ∷ second_mark ∷ 3 ∷ in_front 1 A (in_front 2 a (in_front 1 B (in_front 2 b (in_front 2 k rest))))
+encode (reporting r p) rest = encode_report r p rest
 
 -- the number fits in 32 signed bits
 abbrev pub Fits : ℤ → Type 0
@@ -56,7 +56,7 @@ AllFit (x ∷ xs) = Fits x × AllFit xs
 -- a list of pairs that a record may announce
 pub record Pairs (xs : List ℤ) : Type 0 where
   pub even : length xs % 2 ≡ 0
-  pub most : length xs / 2 ≤ mostVertices
+  pub most : length xs / 2 ≤ most_vertices
   pub fit : AllFit xs
 
 -- a grid position of 32 signed bits, or a fix of doubles

@@ -1,7 +1,7 @@
 // Decoding the record at the front of a stream's bytes, by its kind. The places of fields are counted from the record's first byte, as the
 // layout lists them. Any other kind is unknown.
 ghost use Rattle.std.specs.Prelude.{◌≡◌, List, ℤ, length, ◌≤◌, ◌<◌};
-ghost use Rattle.records.specs.Layout.{whole, outlineFront, splitFront, mergeFront, gridFront, fixFront, positionFront, front};
+ghost use Rattle.records.specs.Layout.{whole, outline_front, split_front, merge_front, grid_front, fix_front, position_front, front};
 ghost use Rattle.history.specs.Histories.{reporting};
 ghost use Rattle.records.specs.Bytes.{field};
 ghost use Rattle.records.specs.Decoding.{Decodes};
@@ -41,7 +41,7 @@ fn nothing(front: Front) -> Decoded
 
 fn outline(bytes: &[u8], to: &mut [i32]) -> Decoded
     requires { length to.old ≡ 4096 }
-    ensures { Decodes result (outlineFront bytes.now) to.old to.new }
+    ensures { Decodes result (outline_front bytes.now) to.old to.new }
 {
     if bytes.len() < OUTLINE_HEAD {
         return nothing(Front::More);
@@ -63,7 +63,7 @@ fn outline(bytes: &[u8], to: &mut [i32]) -> Decoded
 
 fn split(bytes: &[u8], to: &mut [i32]) -> Decoded
     requires { length to.old ≡ 4096 }
-    ensures { Decodes result (splitFront bytes.now) to.old to.new }
+    ensures { Decodes result (split_front bytes.now) to.old to.new }
 {
     if bytes.len() < SPLIT_HEAD {
         return nothing(Front::More);
@@ -87,7 +87,7 @@ fn split(bytes: &[u8], to: &mut [i32]) -> Decoded
 }
 
 fn merge(bytes: &[u8]) -> Decoded
-    ensures { (to : List ℤ) → Decodes result (mergeFront bytes.now) to to }
+    ensures { (to : List ℤ) → Decodes result (merge_front bytes.now) to to }
 {
     if bytes.len() < MERGE {
         return nothing(Front::More);
@@ -118,7 +118,7 @@ fn reported(bytes: &[u8], position: Position, taken: usize) -> Decoded
 // A report whose x and y end the record.
 fn with_grid(bytes: &[u8], at: usize) -> Decoded
     requires { (7 ≤ at) × (at < 256) }
-    ensures { (to : List ℤ) → Decodes result (gridFront bytes.now at) to to }
+    ensures { (to : List ℤ) → Decodes result (grid_front bytes.now at) to to }
 {
     let taken = at + PAIR;
     if bytes.len() < taken {
@@ -130,7 +130,7 @@ fn with_grid(bytes: &[u8], at: usize) -> Decoded
 }
 
 fn with_fix(bytes: &[u8]) -> Decoded
-    ensures { (to : List ℤ) → Decodes result (fixFront bytes.now 8) to to }
+    ensures { (to : List ℤ) → Decodes result (fix_front bytes.now 8) to to }
 {
     if bytes.len() < FIX {
         return nothing(Front::More);
@@ -141,7 +141,7 @@ fn with_fix(bytes: &[u8]) -> Decoded
 }
 
 fn position(bytes: &[u8]) -> Decoded
-    ensures { (to : List ℤ) → Decodes result (positionFront bytes.now) to to }
+    ensures { (to : List ℤ) → Decodes result (position_front bytes.now) to to }
 {
     if bytes.len() < POSITION_HEAD {
         return nothing(Front::More);

@@ -3,7 +3,7 @@ ghost use Rattle.std.specs.Prelude.{◌≡◌, ◌+◌, ◌*◌, ◌^◌, ◌<�
 ghost use Rattle.std.specs.Float.{binary64};
 ghost use Rattle.std.specs.Float.Ieee.{of_bits};
 ghost use Rattle.districts.specs.Lent.{written};
-ghost use Rattle.records.specs.Bytes.{field, signed as signed_of, signedFields};
+ghost use Rattle.records.specs.Bytes.{field, signed as signed_of, signed_fields};
 
 // How many numbers one, two and four bytes can be; half of what four can be, and all of it, to be taken off a signed number.
 const ONE_BYTE: usize = 256;
@@ -81,7 +81,7 @@ pub fn signed(n: usize) -> i32
 pub fn signed_fields(bytes: &[u8], at: usize, m: usize, to: &mut [i32])
     requires m_in_bounds { at + 4 * m ≤ length bytes.now }
     requires m_in_bounds_2 { m ≤ length to.old }
-    ensures { to.new ≡ written (signedFields bytes.now at m) to.old }
+    ensures { to.new ≡ written (signed_fields bytes.now at m) to.old }
 {
     let mut k = 0;
     while k < m {

@@ -8,16 +8,16 @@ use Rattle.refusals.specs.declared.Refusal.TheVariants.{NotWellFormed, NoOutline
 use Rattle.refusals.specs.Numbers.{number_of}
 
 -- the refusals by their numbers, from 0 on; Missing stands for the numbers that no refusal has
-abbrev byNumber : List Refusal
-byNumber =
+abbrev by_number : List Refusal
+by_number =
     Missing ∷ NotWellFormed ∷ NoOutline ∷ OutlineThere ∷ NoRing ∷ BeyondGrid ∷ BadNumber ∷ SameDistrict ∷ BadIndex ∷ TooFew ∷ NoMatch ∷ NumbersInUse
     ∷ NoRoom ∷ BrokenRecord ∷ CountFull ∷ Missing ∷ Missing ∷ Missing ∷ NotFinite
     ∷ Missing ∷ Missing ∷ Missing ∷ Missing ∷ Missing ∷ Missing ∷ Missing ∷ Missing ∷ Missing ∷ ListTooShort ∷ []
 
-abbrev pub refusalOf : ℕ → Refusal
-refusalOf n = get_or byNumber n Missing
+abbrev pub refusal_of : ℕ → Refusal
+refusal_of n = get_or by_number n Missing
 
-pub refusal-back : (r : Refusal) → refusalOf (number_of r) ≡ r
+pub refusal-back : (r : Refusal) → refusal_of (number_of r) ≡ r
 refusal-back NotWellFormed = refl
 refusal-back NoOutline = refl
 refusal-back OutlineThere = refl
@@ -36,5 +36,5 @@ refusal-back NotFinite = refl
 refusal-back Missing = refl
 refusal-back ListTooShort = refl
 
-pub numberOf-injective : (r s : Refusal) → number_of r ≡ number_of s → r ≡ s
-numberOf-injective r s e = sym (refusal-back r) ∙ ap refusalOf e ∙ refusal-back s
+pub number_of-injective : (r s : Refusal) → number_of r ≡ number_of s → r ≡ s
+number_of-injective r s e = sym (refusal-back r) ∙ ap refusal_of e ∙ refusal-back s

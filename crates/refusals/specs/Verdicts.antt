@@ -20,6 +20,6 @@ verdict ((n if true) ∷ ts) = refuse n
 verdict ((n if false) ∷ ts) = verdict ts
 
 -- what the code's verdict says
-abbrev pub verdictOf : Code.Verdict → Verdict
-verdictOf Accepted = accept
-verdictOf (Refused r) = refuse (number_of r)
+abbrev pub verdict_of : Code.Verdict → Verdict
+verdict_of Accepted = accept
+verdict_of (Refused r) = refuse (number_of r)

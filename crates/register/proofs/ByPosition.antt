@@ -7,7 +7,7 @@ use lib.IntN.{ℤ}
 use Rattle.ring.specs.declared.Point.{Point}
 use Rattle.ring.specs.Grid.{point, beyond}
 use Rattle.ring.specs.Choices.{pick}
-use Rattle.districts.specs.Register.{Register, inUse}
+use Rattle.districts.specs.Register.{Register, in_use}
 use Rattle.districts.specs.Lent.{beginning}
 use Rattle.districts.specs.Answers.{Answer, report, refused}
 use Rattle.refusals.specs.declared.Refusal.{Refusal}
@@ -15,7 +15,7 @@ use Rattle.refusals.specs.declared.Refusal.TheVariants as Why
 use Rattle.refusals.specs.Numbers.{number_of}
 use Rattle.refusals.specs.Verdicts.{Test, ◌if◌, accept, refuse, verdict}
 use Rattle.refusals.proofs.Verdicts.{stops-early}
-use Rattle.register.specs.Sorting.{belongsTo, pointTests, given, assigned}
+use Rattle.register.specs.Sorting.{belongs_to, point_tests, given, assigned}
 use Rattle.fixes.specs.declared.Fix as Receivers
 use Rattle.fixes.specs.declared.Placed.{Placed}
 use Rattle.fixes.specs.declared.Placed.TheVariants.{OnGrid, BeyondGrid, NotFinite}
@@ -24,7 +24,7 @@ use Rattle.register.specs.declared.Position.{Position}
 use Rattle.register.specs.declared.Position.TheVariants.{Grid, Fix, Missing}
 use Rattle.register.specs.declared.placing.Spot.{Spot}
 use Rattle.register.specs.declared.placing.Spot.TheVariants.{At, Nowhere}
-use Rattle.register.specs.Placing.{isMissing, notFinite, eastOf, northOf, positionTests, placeTests, assignedAt, refusedAs}
+use Rattle.register.specs.Placing.{is_missing, not_finite, east_of, north_of, position_tests, place_tests, assigned_at, refused_as}
 use Rattle.register.specs.Spots.{Spots}
 use Rattle.register.proofs.Given.{answer-given}
 
@@ -63,8 +63,8 @@ only-5 : (c : Bool) → verdict (own false false c) ≡ verdict ((5 if c) ∷ []
 unfolding verdict
 only-5 c = refl
 
-there : (p : Position) → isMissing p ≡ false → notFinite p ≡ false → Spots (At (point (eastOf p) (northOf p))) p
-there p here fine = let far = beyond (eastOf p) || beyond (northOf p) in (refl, (λ i. verdict (own (here i) (fine i) far)) ∙ only-5 far)
+there : (p : Position) → is_missing p ≡ false → not_finite p ≡ false → Spots (At (point (east_of p) (north_of p))) p
+there p here fine = let far = beyond (east_of p) || beyond (north_of p) in (refl, (λ i. verdict (own (here i) (fine i) far)) ∙ only-5 far)
 
 pub grid-spot : (x y : ℤ) → Spots (At (point x y)) (Grid x y)
 grid-spot x y = there (Grid x y) refl refl
@@ -73,49 +73,49 @@ pub missing-spot : Spots (Nowhere Why.Missing) Missing
 missing-spot = first-19 false _
 
 -- by where a fix was placed
-abbrev pub spotBy : Placed → Spot
-spotBy (OnGrid x y) = At (point x y)
-spotBy BeyondGrid = Nowhere Why.BeyondGrid
-spotBy NotFinite = Nowhere Why.NotFinite
+abbrev pub spot_by : Placed → Spot
+spot_by (OnGrid x y) = At (point x y)
+spot_by BeyondGrid = Nowhere Why.BeyondGrid
+spot_by NotFinite = Nowhere Why.NotFinite
 
-fix-by : (p : Position) (b c : Bool) → isMissing p ≡ false → notFinite p ≡ b → (beyond (eastOf p) || beyond (northOf p)) ≡ c
-    → Spots (spotBy (pick b NotFinite (pick c BeyondGrid (OnGrid (eastOf p) (northOf p))))) p
-fix-by p true c here e f = (λ i. verdict (own (here i) (e i) (beyond (eastOf p) || beyond (northOf p)))) ∙ first-18 _
+fix-by : (p : Position) (b c : Bool) → is_missing p ≡ false → not_finite p ≡ b → (beyond (east_of p) || beyond (north_of p)) ≡ c
+    → Spots (spot_by (pick b NotFinite (pick c BeyondGrid (OnGrid (east_of p) (north_of p))))) p
+fix-by p true c here e f = (λ i. verdict (own (here i) (e i) (beyond (east_of p) || beyond (north_of p)))) ∙ first-18 _
 fix-by p false true here e f = (λ i. verdict (own (here i) (e i) (f i))) ∙ first-5
 fix-by p false false here e f = there p here e
 
-pub fix-spot : (f : Receivers.Fix) → Spots (spotBy (placed f.easting f.northing)) (Fix f)
+pub fix-spot : (f : Receivers.Fix) → Spots (spot_by (placed f.easting f.northing)) (Fix f)
 fix-spot f = fix-by (Fix f) _ _ refl refl refl
 
 -- ---- the answer
 
 module _ (good : Bool) (g : Register) (n : ℕ) (p : Position) where
-  pub spot-at : (r : Point) → Spots (At r) p → assigned good g n r.x r.y ≡ assignedAt good g n p
-  unfolding assigned assignedAt
+  pub spot-at : (r : Point) → Spots (At r) p → assigned good g n r.x r.y ≡ assigned_at good g n p
+  unfolding assigned assigned_at
   spot-at r e =
-      (λ i. given (behind (not good) (not (inUse g.outline)) (pointTests r.x r.y) (positionTests p) (sym e.1) i) (report n (belongsTo g (point r.x r.y))))
-      ∙ ap (λ (q : Point). given (verdict (placeTests good g p)) (report n (belongsTo g (point q.x q.y)))) e.0
+      (λ i. given (behind (not good) (not (in_use g.outline)) (point_tests r.x r.y) (position_tests p) (sym e.1) i) (report n (belongs_to g (point r.x r.y))))
+      ∙ ap (λ (q : Point). given (verdict (place_tests good g p)) (report n (belongs_to g (point q.x q.y)))) e.0
 
-  pub spot-nowhere : (why : Refusal) → Spots (Nowhere why) p → refusedAs good g (number_of why) ≡ assignedAt good g n p
-  unfolding assignedAt
-  spot-nowhere why e = behind-refused _ _ (positionTests p) (number_of why) _ e
+  pub spot-nowhere : (why : Refusal) → Spots (Nowhere why) p → refused_as good g (number_of why) ≡ assigned_at good g n p
+  unfolding assigned_at
+  spot-nowhere why e = behind-refused _ _ (position_tests p) (number_of why) _ e
 
   -- the same where refusals 1 and 2 are passed
-  pub spot-at-once : (r : Point) → Spots (At r) p → verdict (beginning good g) ≡ accept → given (verdict (pointTests r.x r.y)) (report n (belongsTo g r)) ≡ assignedAt good g n p
+  pub spot-at-once : (r : Point) → Spots (At r) p → verdict (beginning good g) ≡ accept → given (verdict (point_tests r.x r.y)) (report n (belongs_to g r)) ≡ assigned_at good g n p
   spot-at-once r e begun = answer-given good g n r.x r.y begun ∙ spot-at r e
 
-  pub spot-nowhere-once : (why : Refusal) → Spots (Nowhere why) p → verdict (beginning good g) ≡ accept → refused (number_of why) ≡ assignedAt good g n p
+  pub spot-nowhere-once : (why : Refusal) → Spots (Nowhere why) p → verdict (beginning good g) ≡ accept → refused (number_of why) ≡ assigned_at good g n p
   spot-nowhere-once why e begun = sym (ap (λ v. given v (refused (number_of why))) begun) ∙ spot-nowhere why e
 
   -- and where one of them is met
-  pub begun_first : (m : ℕ) → verdict (beginning good g) ≡ refuse m → refused m ≡ assignedAt good g n p
-  unfolding assignedAt
-  begun_first m e = sym (ap (λ v. given v (report n (belongsTo g (point (eastOf p) (northOf p))))) (stops-early m (beginning good g) (positionTests p) e))
+  pub begun_first : (m : ℕ) → verdict (beginning good g) ≡ refuse m → refused m ≡ assigned_at good g n p
+  unfolding assigned_at
+  begun_first m e = sym (ap (λ v. given v (report n (belongs_to g (point (east_of p) (north_of p))))) (stops-early m (beginning good g) (position_tests p) e))
 
   -- a position that is there and finite is answered as its millimetres are
-  pub as-on-grid : isMissing p ≡ false → notFinite p ≡ false → assignedAt good g n p ≡ assigned good g n (eastOf p) (northOf p)
-  as-on-grid here fine = sym (spot-at (point (eastOf p) (northOf p)) (there p here fine))
+  pub as-on-grid : is_missing p ≡ false → not_finite p ≡ false → assigned_at good g n p ≡ assigned good g n (east_of p) (north_of p)
+  as-on-grid here fine = sym (spot-at (point (east_of p) (north_of p)) (there p here fine))
 
 -- the old promise: a report with a grid position is answered as it ever was
-pub grid-as-before : (good : Bool) (g : Register) (n : ℕ) (x y : ℤ) → assignedAt good g n (Grid x y) ≡ assigned good g n x y
+pub grid-as-before : (good : Bool) (g : Register) (n : ℕ) (x y : ℤ) → assigned_at good g n (Grid x y) ≡ assigned good g n x y
 grid-as-before good g n x y = as-on-grid good g n (Grid x y) refl refl

@@ -9,17 +9,17 @@ use lib.Dec.{eqb, eqb-suc-zero}
 use lib.ListN.{length, get_or, drop, set, length-set, length-append, length-drop}
 use lib.Seq.{take_at, get_or-set_same, get_or-set_other}
 use Rattle.ring.specs.declared.Point.{Point}
-use Rattle.ring.specs.Grid.{someBeyond}
+use Rattle.ring.specs.Grid.{some_beyond}
 use Rattle.ring.specs.Choices.{pick}
 use Rattle.ring.proofs.Pick.{pick-false}
-use Rattle.districts.specs.Counts.{sum_to, listTo}
+use Rattle.districts.specs.Counts.{sum_to, list_to}
 use Rattle.districts.specs.Register.{unused, ring}
-use Rattle.districts.specs.Lists.{outlineSize, firstPlace, size, part, held, district, meaning}
+use Rattle.districts.specs.Lists.{outline_size, first_place, size, part, held, district, meaning}
 use Rattle.districts.specs.WellFormed.{sized, total}
 use Rattle.districts.specs.Lent.{written}
 use Rattle.districts.proofs.Counting.{term-most}
 use Rattle.districts.proofs.Meaning.{unused-when, ring-when, list_same}
-use Rattle.room.specs.Writing.{numbersOf}
+use Rattle.room.specs.Writing.{numbers_of}
 use Rattle.room.proofs.Forms.{Sound, size-allowed}
 use Rattle.register.specs.Calls.{placed}
 
@@ -36,8 +36,8 @@ unfolding sum_to
 sum_one f zero h = zero-add (f 0)
 sum_one f (suc n) h = (λ i. sum_one f n (λ k a b. h k a (omega arith)) i + h (suc n) (omega arith) (omega arith) i) ∙ add-zero (f 0)
 
-module _ (outline store : List Point) (runs : List ℕ) (P : List Point) (s : Sound outline store runs) (none : outlineSize runs ≡ 0)
-    (least : 3 ≤ length P) (most : length P ≤ 2048) (grid : someBeyond (numbersOf P) ≡ false) where
+module _ (outline store : List Point) (runs : List ℕ) (P : List Point) (s : Sound outline store runs) (none : outline_size runs ≡ 0)
+    (least : 3 ≤ length P) (most : length P ≤ 2048) (grid : some_beyond (numbers_of P) ≡ false) where
   -- the ring's number of vertices, and the runs after founding
   n : ℕ
   n = length P
@@ -67,13 +67,13 @@ module _ (outline store : List Point) (runs : List ℕ) (P : List Point) (s : So
   unfolding runs'
   size-first = get_or-set_same (set (set runs 0 n) 1 0) 65 n 0 (simp length-set (omega (arith, s.runs-length)))
 
-  place-first : firstPlace runs' 0 ≡ 0
+  place-first : first_place runs' 0 ≡ 0
   unfolding runs'
   place-first =
       get_or-set_other (set (set runs 0 n) 1 0) 65 1 n 0 (λ (e : 1 ≡ 65). omega arith)
       ∙ get_or-set_same (set runs 0 n) 1 0 0 (simp length-set (omega (arith, s.runs-length)))
 
-  outline-of : outlineSize runs' ≡ n
+  outline-of : outline_size runs' ≡ n
   unfolding runs'
   outline-of =
       get_or-set_other (set (set runs 0 n) 1 0) 65 0 n 0 (λ (e : 0 ≡ 65). omega arith)
@@ -95,7 +95,7 @@ module _ (outline store : List Point) (runs : List ℕ) (P : List Point) (s : So
   first-only zero h some = refl
   first-only (suc d) h some = absurd (let e = size_of (suc d) (omega arith) h in let f : ⊥ = omega arith in f)
 
-  inside : (d : ℕ) → d < 64 → 0 < size runs' d → firstPlace runs' d + size runs' d ≤ total runs'
+  inside : (d : ℕ) → d < 64 → 0 < size runs' d → first_place runs' d + size runs' d ≤ total runs'
   inside zero h some = omega (arith, place-first, size-first, total_of)
   inside (suc d) h some = absurd (let e = first-only (suc d) h some in let f : ⊥ = omega arith in f)
 
@@ -108,11 +108,11 @@ module _ (outline store : List Point) (runs : List ℕ) (P : List Point) (s : So
     outline-size = ap sized outline-of ∙ size-allowed (length P) least most;
     sizes = each-size;
     most = omega (arith, total_of);
-    beside = λ (e : outlineSize runs' ≡ 0). absurd (omega (arith, outline-of));
+    beside = λ (e : outline_size runs' ≡ 0). absurd (omega (arith, outline-of));
     inside = inside;
     apart = λ d e h k differ some more. absurd (differ (first-only d h some ∙ sym (first-only e k more)));
-    outline-grid = ap (λ k. someBeyond (numbersOf (part (written P outline) 0 k))) outline-of ∙ ap (λ Q. someBeyond (numbersOf Q)) (written-part P outline (length P) refl) ∙ grid;
-    store-grid = ap (λ k. someBeyond (numbersOf (part (written P store) 0 k))) total_of ∙ ap (λ Q. someBeyond (numbersOf Q)) (written-part P store (length P) refl) ∙ grid;
+    outline-grid = ap (λ k. some_beyond (numbers_of (part (written P outline) 0 k))) outline-of ∙ ap (λ Q. some_beyond (numbers_of Q)) (written-part P outline (length P) refl) ∙ grid;
+    store-grid = ap (λ k. some_beyond (numbers_of (part (written P store) 0 k))) total_of ∙ ap (λ Q. some_beyond (numbers_of Q)) (written-part P store (length P) refl) ∙ grid;
   }
 
   -- ---- the meaning
@@ -125,9 +125,9 @@ module _ (outline store : List Point) (runs : List ℕ) (P : List Point) (s : So
       ∙ ap ring (written-part P before (length P) refl)
 
   each : (d : ℕ) → d < 64 → district (written P store) runs' d ≡ pick (eqb d 0) (ring P) unused
-  each zero h = ring_of store (firstPlace runs' 0) (size runs' 0) place-first size-first
+  each zero h = ring_of store (first_place runs' 0) (size runs' 0) place-first size-first
   each (suc d) h =
-      unused-when (written P store) (firstPlace runs' (suc d)) (size runs' (suc d)) (size_of (suc d) (omega arith) h)
+      unused-when (written P store) (first_place runs' (suc d)) (size runs' (suc d)) (size_of (suc d) (omega arith) h)
       ∙ sym (pick-false (eqb-suc-zero d) (ring P) unused)
 
   -- ---- together
@@ -136,9 +136,9 @@ module _ (outline store : List Point) (runs : List ℕ) (P : List Point) (s : So
   unfolding runs' n
   founded-sound = facts
 
-  pub founded-meaning : meaning (written P outline) (written P store) (placed runs (length P)) ≡ record { outline = ring P; districts = listTo 64 (λ d. pick (eqb d 0) (ring P) unused) }
+  pub founded-meaning : meaning (written P outline) (written P store) (placed runs (length P)) ≡ record { outline = ring P; districts = list_to 64 (λ d. pick (eqb d 0) (ring P) unused) }
   unfolding meaning runs' n
   founded-meaning = λ i. record {
-    outline = ring_of outline 0 (outlineSize runs') refl outline-of i;
+    outline = ring_of outline 0 (outline_size runs') refl outline-of i;
     districts = list_same 64 (district (written P store) runs') (λ d. pick (eqb d 0) (ring P) unused) each i;
   }

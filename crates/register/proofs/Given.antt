@@ -14,48 +14,48 @@ use Rattle.ring.specs.Walk.{OnGrid}
 use Rattle.ring.proofs.Pick.{neither_left, neither_right}
 use Rattle.ring.proofs.OnGrid.{point-on-grid}
 use Rattle.districts.specs.Register.{Register}
-use Rattle.districts.specs.Lists.{outlineSize, district, meaning}
-use Rattle.districts.specs.Lent.{Lists, outlineOf, store_of, formed, means}
+use Rattle.districts.specs.Lists.{outline_size, district, meaning}
+use Rattle.districts.specs.Lent.{Lists, outline_of, store_of, formed, means}
 use Rattle.districts.specs.Lent.{beginning}
 use Rattle.districts.specs.Answers as Answers
 use Rattle.districts.specs.Answers.{Answer, report}
 use Rattle.districts.proofs.Sound.{runs-length}
 use Rattle.districts.proofs.Lent.{no-outline}
 use Rattle.districts.proofs.Meaning.{slot_is}
-use Rattle.register.specs.Sorting.{liesTo, sortedBy, belongsTo, pointTests, given, assigned}
+use Rattle.register.specs.Sorting.{lies_to, sorted_by, belongs_to, point_tests, given, assigned}
 
 module _ (good : Bool) (g : Register) (r : ℕ) (a b : ℤ) where
   pub answer-refused : (n : ℕ) → verdict (beginning good g) ≡ refuse n → Answers.refused n ≡ assigned good g r a b
   unfolding assigned
-  answer-refused n e = sym (ap (λ v. given v (report r (belongsTo g (point a b)))) (stops-early n (beginning good g) (pointTests a b) e))
+  answer-refused n e = sym (ap (λ v. given v (report r (belongs_to g (point a b)))) (stops-early n (beginning good g) (point_tests a b) e))
 
-  pub answer-given : verdict (beginning good g) ≡ accept → given (verdict (pointTests a b)) (report r (belongsTo g (point a b))) ≡ assigned good g r a b
+  pub answer-given : verdict (beginning good g) ≡ accept → given (verdict (point_tests a b)) (report r (belongs_to g (point a b))) ≡ assigned good g r a b
   unfolding assigned
-  answer-given e = sym (ap (λ v. given v (report r (belongsTo g (point a b)))) (passes-first (beginning good g) (pointTests a b) e))
+  answer-given e = sym (ap (λ v. given v (report r (belongs_to g (point a b)))) (passes-first (beginning good g) (point_tests a b) e))
 
 -- in a well-formed register only an outline may be missing
 module _ (outline store : List Point) (runs : List ℕ) where
-  pub none-begun : eqb (outlineSize runs) 0 ≡ true → verdict (beginning true (meaning outline store runs)) ≡ refuse 2
+  pub none-begun : eqb (outline_size runs) 0 ≡ true → verdict (beginning true (meaning outline store runs)) ≡ refuse 2
   none-begun e = passes 1 _ _ refl ∙ stops_at 2 _ [] (no-outline outline store runs ∙ e)
 
-  pub some-begun : eqb (outlineSize runs) 0 ≡ false → verdict (beginning true (meaning outline store runs)) ≡ accept
+  pub some-begun : eqb (outline_size runs) 0 ≡ false → verdict (beginning true (meaning outline store runs)) ≡ accept
   some-begun e = passes 1 _ _ refl ∙ passes 2 _ [] (no-outline outline store runs ∙ e) ∙ passed-all
 
 -- a point of the grid is answered, one beyond it refused
 module _ (a b : ℤ) (x : Answer) where
-  pub point-refused : (beyond a || beyond b) ≡ true → Answers.refused 5 ≡ given (verdict (pointTests a b)) x
+  pub point-refused : (beyond a || beyond b) ≡ true → Answers.refused 5 ≡ given (verdict (point_tests a b)) x
   point-refused e = sym (ap (λ v. given v x) (stops_at 5 _ [] e))
 
-  pub point-taken : (beyond a || beyond b) ≡ false → x ≡ given (verdict (pointTests a b)) x
+  pub point-taken : (beyond a || beyond b) ≡ false → x ≡ given (verdict (point_tests a b)) x
   point-taken e = sym (ap (λ v. given v x) (passes 5 _ [] e ∙ passed-all))
 
 pub point-grid : (r : Point) → (beyond r.x || beyond r.y) ≡ false → OnGrid r
 point-grid r e = point-on-grid r.x r.y (neither_left (beyond r.x) _ e) (neither_right (beyond r.x) _ e)
 
 -- sorting by the runs is sorting by the register that they mean
-pub sorted-by : (outline store : List Point) (runs : List ℕ) → length runs ≡ 129 → (R : Point) → sortedBy (λ d. liesTo R (district store runs d)) ≡ belongsTo (meaning outline store runs) R
-unfolding belongsTo
-sorted-by outline store runs long R = λ i. sortedBy (λ d. liesTo R (sym (slot_is outline store runs long d) i))
+pub sorted-by : (outline store : List Point) (runs : List ℕ) → length runs ≡ 129 → (R : Point) → sorted_by (λ d. lies_to R (district store runs d)) ≡ belongs_to (meaning outline store runs) R
+unfolding belongs_to
+sorted-by outline store runs long R = λ i. sorted_by (λ d. lies_to R (sym (slot_is outline store runs long d) i))
 
-pub sorted-is : (l : Lists) → formed l ≡ true → (R : Point) → sortedBy (λ d. liesTo R (district (store_of l) l.runs d)) ≡ belongsTo (means l) R
-sorted-is l good R = sorted-by (outlineOf l) (store_of l) l.runs (runs-length l good) R
+pub sorted-is : (l : Lists) → formed l ≡ true → (R : Point) → sorted_by (λ d. lies_to R (district (store_of l) l.runs d)) ≡ belongs_to (means l) R
+sorted-is l good R = sorted-by (outline_of l) (store_of l) l.runs (runs-length l good) R

@@ -9,22 +9,22 @@ use lib.IntN.{ℤ, pos}
 use lib.ListN.{length, take, drop}
 use Rattle.ring.specs.declared.Point.{Point}
 use Rattle.ring.specs.Columns.{points}
-use Rattle.ring.specs.Locate.{Place, off, locatedOn}
+use Rattle.ring.specs.Locate.{Place, off, located_on}
 use Rattle.ring.specs.Walk.{OnGrid}
 use Rattle.columns.specs.Walk.{Ready, Beside}
 use Rattle.columns.proofs.Sides.{row-misses, column-misses}
-use Rattle.districts.specs.Lists.{firstPlace, size, part, district}
+use Rattle.districts.specs.Lists.{first_place, size, part, district}
 use Rattle.districts.specs.Lent.{GoodRuns}
 use Rattle.districts.proofs.Meaning.{unused-when, ring-when}
 use Rattle.districts.proofs.Lent.{cut, cut-points, part_length, points-part}
 use Rattle.index.specs.Axis.{Held, run, RunBeside}
 use Rattle.register.specs.declared.standing.Stance.{Stance}
-use Rattle.register.specs.Sorting.{rests, winds, liesTo}
+use Rattle.register.specs.Sorting.{rests, winds, lies_to}
 use Rattle.register.specs.Standing.{Stands}
 
 -- where r lies to a number
 abbrev pub lies : List ℤ → List ℤ → List ℕ → Point → ℕ → Place
-lies sx sy runs r d = liesTo r (district (points sx sy) runs d)
+lies sx sy runs r d = lies_to r (district (points sx sy) runs d)
 
 -- on no ring, and winding about none
 abbrev pub Quiet : Place → Type 0
@@ -32,16 +32,16 @@ Quiet p = (rests p ≡ false) × (winds p ≡ false)
 
 pub lies-unused : (sx sy : List ℤ) (runs : List ℕ) (r : Point) (d : ℕ) → size runs d ≡ 0 → Quiet (lies sx sy runs r d)
 lies-unused sx sy runs r d e =
-    let nothing = unused-when (points sx sy) (firstPlace runs d) (size runs d) e in
-    (ap (λ s. rests (liesTo r s)) nothing, ap (λ s. winds (liesTo r s)) nothing)
+    let nothing = unused-when (points sx sy) (first_place runs d) (size runs d) e in
+    (ap (λ s. rests (lies_to r s)) nothing, ap (λ s. winds (lies_to r s)) nothing)
 
 -- locating may take the parts of the columns that are a district's ring
-pub ready : (sx sy : List ℤ) (runs : List ℕ) (r : Point) → GoodRuns sx sy runs → (d : ℕ) → d < 64 → (size runs d ≡ 0 → ⊥) → OnGrid r → Ready (part sx (firstPlace runs d) (size runs d)) (part sy (firstPlace runs d) (size runs d)) r
+pub ready : (sx sy : List ℤ) (runs : List ℕ) (r : Point) → GoodRuns sx sy runs → (d : ℕ) → d < 64 → (size runs d ≡ 0 → ⊥) → OnGrid r → Ready (part sx (first_place runs d) (size runs d)) (part sy (first_place runs d) (size runs d)) r
 ready sx sy runs r good d h k g =
     let used : 0 < size runs d = omega arith in
-    let fits : firstPlace runs d + size runs d ≤ 2048 = good.fits d h used in
-    let across : length (part sx (firstPlace runs d) (size runs d)) ≡ size runs d = part_length sx (firstPlace runs d) (size runs d) (omega (arith, good.x-length)) in
-    let up : length (part sy (firstPlace runs d) (size runs d)) ≡ size runs d = part_length sy (firstPlace runs d) (size runs d) (omega (arith, good.y-length)) in
+    let fits : first_place runs d + size runs d ≤ 2048 = good.fits d h used in
+    let across : length (part sx (first_place runs d) (size runs d)) ≡ size runs d = part_length sx (first_place runs d) (size runs d) (omega (arith, good.x-length)) in
+    let up : length (part sy (first_place runs d) (size runs d)) ≡ size runs d = part_length sy (first_place runs d) (size runs d) (omega (arith, good.y-length)) in
     let least = good.least d h used in
     let most = good.most d h in
     record {
@@ -57,7 +57,7 @@ ready sx sy runs r good d h k g =
 
 -- ---- a used number's run, as it is handed on: n places from f on
 
-module _ (sx sy : List ℤ) (runs : List ℕ) (good : GoodRuns sx sy runs) (r : Point) (grid : OnGrid r) (d : ℕ) (few : d < 64) (used : size runs d ≡ 0 → ⊥) (f n : ℕ) (at : f ≡ firstPlace runs d) (long : n ≡ size runs d) where
+module _ (sx sy : List ℤ) (runs : List ℕ) (good : GoodRuns sx sy runs) (r : Point) (grid : OnGrid r) (d : ℕ) (few : d < 64) (used : size runs d ≡ 0 → ⊥) (f n : ℕ) (at : f ≡ first_place runs d) (long : n ≡ size runs d) where
   pub run_inside : f + n ≤ 2048
   run_inside = omega (arith, at, long, good.fits d few (omega arith))
 
@@ -66,10 +66,10 @@ module _ (sx sy : List ℤ) (runs : List ℕ) (good : GoodRuns sx sy runs) (r : 
       subst₂ (λ xs ys. Ready xs ys r) (sym (cut sx f n)) (sym (cut sy f n))
       (subst₂ (λ f n. Ready (part sx f n) (part sy f n) r) (sym at) (sym long) (ready sx sy runs r good d few used grid))
 
-  pub run_lies : (s : Stance) → Stands s (locatedOn (points (take (f + n - f) (drop f sx)) (take (f + n - f) (drop f sy))) r) → Stands s (lies sx sy runs r d)
+  pub run_lies : (s : Stance) → Stands s (located_on (points (take (f + n - f) (drop f sx)) (take (f + n - f) (drop f sy))) r) → Stands s (lies sx sy runs r d)
   run_lies s stands =
       let is = cut-points sx sy f n ∙ (λ i. part (points sx sy) (at i) (long i)) in
-      subst (Stands s) (ap (λ P. locatedOn P r) is ∙ sym (ap (liesTo r) (ring-when (points sx sy) (firstPlace runs d) (size runs d) used))) stands
+      subst (Stands s) (ap (λ P. located_on P r) is ∙ sym (ap (lies_to r) (ring-when (points sx sy) (first_place runs d) (size runs d) used))) stands
 
 -- what an index along x or y may be made of
 pub held_x : (sx sy : List ℤ) (runs : List ℕ) → GoodRuns sx sy runs → Held sx runs
@@ -87,16 +87,16 @@ module _ (sx sy : List ℤ) (runs : List ℕ) (good : GoodRuns sx sy runs) (r : 
   abbrev ys : List ℤ
   ys = run sy runs d
 
-  off-quiet : (size runs d ≡ 0 → ⊥) → locatedOn (points xs ys) r ≡ off (pos 0) false → Quiet (lies sx sy runs r d)
+  off-quiet : (size runs d ≡ 0 → ⊥) → located_on (points xs ys) r ≡ off (pos 0) false → Quiet (lies sx sy runs r d)
   off-quiet used e =
-      let at = ap (liesTo r) (ring-when (points sx sy) (firstPlace runs d) (size runs d) used) ∙ ap (λ P. locatedOn P r) (sym (points-part sx sy (firstPlace runs d) (size runs d))) ∙ e in
+      let at = ap (lies_to r) (ring-when (points sx sy) (first_place runs d) (size runs d) used) ∙ ap (λ P. located_on P r) (sym (points-part sx sy (first_place runs d) (size runs d))) ∙ e in
       (ap rests at, ap winds at)
 
   -- as many numbers as the number has vertices
   whole : (column : List ℤ) → length column ≡ 2048 → (v : ℤ) → (size runs d ≡ 0 → ⊥) → RunBeside column runs d v → Beside (run column runs d) v 0 (length (run column runs d) - 1)
   whole column long v used b =
-      let fits : firstPlace runs d + size runs d ≤ length column = (let h = good.fits d few (omega arith) in omega arith) in
-      subst (λ n. Beside (run column runs d) v 0 (n - 1)) (sym (part_length column (firstPlace runs d) (size runs d) fits)) b
+      let fits : first_place runs d + size runs d ≤ length column = (let h = good.fits d few (omega arith) in omega arith) in
+      subst (λ n. Beside (run column runs d) v 0 (n - 1)) (sym (part_length column (first_place runs d) (size runs d) fits)) b
 
   pub beside-x-quiet : (0 < size runs d → RunBeside sx runs d r.x) → Quiet (lies sx sy runs r d)
   beside-x-quiet b = elim (dec_lt 0 (size runs d)) [

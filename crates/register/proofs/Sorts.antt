@@ -10,14 +10,14 @@ use mathlib.Core.Bool.{Bool, true, false, ◌&&◌}
 use lib.Dec.{leb}
 use borrow.Author.Tests.{lt-ltb}
 use Rattle.ring.specs.Choices.{pick, count}
-use Rattle.ring.specs.Locate.{Touch, Place, on as atRing, lowest}
+use Rattle.ring.specs.Locate.{Touch, Place, on as at_ring, lowest}
 use Rattle.ring.proofs.Pick.{pick_true}
 use Rattle.ring.proofs.Search.{lowest-none, lowest-first, Noted, noted-none, noted_more, noted-all}
 use Rattle.districts.specs.Counts.{sum_to}
 use Rattle.districts.specs.Answers.{border}
 use Rattle.districts.proofs.Counting.{sum-none, sum_more}
 use Rattle.register.specs.declared.standing.Seen.{Seen}
-use Rattle.register.specs.Sorting.{rests, winds, restsAt, byCount, sorted, sortedBy}
+use Rattle.register.specs.Sorting.{rests, winds, rests_at, by_count, sorted, sorted_by}
 
 module _ (place : ℕ → Place) where
   -- on the ring of a number; winding about one
@@ -62,12 +62,12 @@ module _ (place : ℕ → Place) where
   sorts-same d s t h l e same = sorts-more false d s t h l e (ap (λ s. s.many) same ∙ sym (add-zero s.many)) (ap (λ s. s.lowest) same)
 
   -- a border, after numbers that have none, is the lowest
-  pub sorts-border : (d : ℕ) (s : Seen) (t : Touch) → d < 64 → Sorts d s → place d ≡ atRing t → border d t ≡ sortedBy place
+  pub sorts-border : (d : ℕ) (s : Seen) (t : Touch) → d < 64 → Sorts d s → place d ≡ at_ring t → border d t ≡ sorted_by place
   sorts-border d s t h l e =
       let first = lowest-first on 64 d l.clear h (ap rests e) in
       let m = sum_to 64 (λ k. count (about k)) in
       let low = lowest about 64 0 in
-      sym (ap (λ b. sorted b (restsAt (place b)) m low) first ∙ pick_true (lt-ltb d 64 h) _ _ ∙ ap (λ p. border d (restsAt p)) e)
+      sym (ap (λ b. sorted b (rests_at (place b)) m low) first ∙ pick_true (lt-ltb d 64 h) _ _ ∙ ap (λ p. border d (rests_at p)) e)
 
   -- numbers that it has nothing to do with, up to n
   pub sorts-rest : (n d : ℕ) (s : Seen) → n ≤ 64 → d ≤ n → Sorts d s → ((e : ℕ) → d ≤ e → e < n → (rests (place e) ≡ false) × (winds (place e) ≡ false)) → Sorts n s
@@ -77,8 +77,8 @@ module _ (place : ℕ → Place) where
       go zero d l e none = subst (λ (m : ℕ). Sorts m s) (let same : d ≡ n = omega arith in same) l
       go (suc k) d l e none = go k (d + 1) (sorts-same d s s (omega arith) l (none d (omega arith) (omega arith)) refl) (omega arith) (λ m h. none m (omega arith))
 
-  pub sorts-all : (s : Seen) → Sorts 64 s → byCount s.many s.lowest ≡ sortedBy place
+  pub sorts-all : (s : Seen) → Sorts 64 s → by_count s.many s.lowest ≡ sorted_by place
   sorts-all s l =
       let clear : lowest on 64 0 ≡ 64 = lowest-none on 64 0 (λ j g k. l.clear j (omega arith)) ∙ zero-add 64 in
       let low : lowest about 64 0 ≡ s.lowest = noted-all about 64 s.lowest l.noted in
-      sym (λ i. sorted (clear i) (restsAt (place (clear i))) (sym l.many i) (low i))
+      sym (λ i. sorted (clear i) (rests_at (place (clear i))) (sym l.many i) (low i))

@@ -6,10 +6,10 @@ use Rattle.refusals.specs.Verdicts.{refuse, verdict}
 use Rattle.register.specs.declared.Position.{Position}
 use Rattle.register.specs.declared.placing.Spot.{Spot}
 use Rattle.register.specs.declared.placing.Spot.TheVariants.{At, Nowhere}
-use Rattle.register.specs.Sorting.{pointTests}
-use Rattle.register.specs.Placing.{eastOf, northOf, positionTests}
+use Rattle.register.specs.Sorting.{point_tests}
+use Rattle.register.specs.Placing.{east_of, north_of, position_tests}
 
 -- a point with nothing to refuse but that it is beyond the grid, or the position's refusal
 abbrev pub Spots : Spot → Position → Type 0
-Spots (At r) p = (r ≡ point (eastOf p) (northOf p)) × (verdict (positionTests p) ≡ verdict (pointTests r.x r.y))
-Spots (Nowhere why) p = verdict (positionTests p) ≡ refuse (number_of why)
+Spots (At r) p = (r ≡ point (east_of p) (north_of p)) × (verdict (position_tests p) ≡ verdict (point_tests r.x r.y))
+Spots (Nowhere why) p = verdict (position_tests p) ≡ refuse (number_of why)

@@ -1,8 +1,8 @@
 // Founding: the outline is stored, and district 0 is made with the same ring.
 ghost use Rattle.std.specs.Prelude.{◌≡◌, ◌+◌, ◌≤◌, length};
 ghost use Rattle.ring.specs.Grid.{vertices};
-ghost use Rattle.refusals.specs.Verdicts.{verdict, verdictOf};
-ghost use Rattle.register.specs.Founding.{foundTests};
+ghost use Rattle.refusals.specs.Verdicts.{verdict, verdict_of};
+ghost use Rattle.register.specs.Founding.{found_tests};
 ghost use Rattle.register.specs.Calls.{placed, Wrote, FoundBy};
 ghost use Rattle.districts.specs.Lent.{lent, formed, means};
 
@@ -21,7 +21,7 @@ fn judged(
     ring: &[i32],
 ) -> Verdict
     requires { good ≡ formed (lent ox.now oy.now sx.now sy.now runs.now) }
-    ensures { verdictOf result ≡ verdict (foundTests (formed (lent ox.now oy.now sx.now sy.now runs.now)) (means (lent ox.now oy.now sx.now sy.now runs.now)) ring.now) }
+    ensures { verdict_of result ≡ verdict (found_tests (formed (lent ox.now oy.now sx.now sy.now runs.now)) (means (lent ox.now oy.now sx.now sy.now runs.now)) ring.now) }
 {
     if !good {
         return Verdict::Refused(Refusal::NotWellFormed);

@@ -8,11 +8,11 @@ ghost use Rattle.districts.specs.Answers.{belongs, report, answer_of};
 ghost use Rattle.districts.specs.Lent.{GoodRuns};
 ghost use Rattle.districts.specs.Lists.{district, meaning};
 ghost use Rattle.ring.specs.declared.Point.{Point};
-ghost use Rattle.register.specs.Placing.{assignedAt};
+ghost use Rattle.register.specs.Placing.{assigned_at};
 ghost use Rattle.register.specs.Listing.{Bounding};
 ghost use Rattle.index.specs.Both.{Indexed};
 ghost use Rattle.refusals.specs.Verdicts.{verdict};
-ghost use Rattle.register.specs.Sorting.{liesTo, sortedBy, pointTests, given};
+ghost use Rattle.register.specs.Sorting.{lies_to, sorted_by, point_tests, given};
 ghost use Rattle.register.specs.Standing.{Stands};
 
 use crate::Position;
@@ -46,7 +46,7 @@ fn lies_near(
     requires bounding { Bounding sx.now sy.now runs.now bx.now by.now }
     requires d_bound { d < 64 }
     requires on_grid { OnGrid r }
-    ensures { Stands result (liesTo r (district (points sx.now sy.now) runs.now d)) }
+    ensures { Stands result (lies_to r (district (points sx.now sy.now) runs.now d)) }
 {
     if !near(bx, by, d, r) {
         return Stance::Outside;
@@ -84,7 +84,7 @@ fn sort_listed(
     requires good_runs { GoodRuns sx.now sy.now runs.now }
     requires indexed { Indexed sx.now sy.now runs.now bx.now by.now mx.now my.now ax ay }
     requires on_grid { OnGrid r }
-    ensures { belongs result ≡ sortedBy (λ d. liesTo r (district (points sx.now sy.now) runs.now d)) }
+    ensures { belongs result ≡ sorted_by (λ d. lies_to r (district (points sx.now sy.now) runs.now d)) }
 {
     let mut seen = Seen {
         lowest: NUMBERS,
@@ -123,7 +123,7 @@ pub fn place_listed(
 ) -> Assigned
     requires good_runs { GoodRuns sx.now sy.now runs.now }
     requires indexed { Indexed sx.now sy.now runs.now bx.now by.now mx.now my.now ax ay }
-    ensures { answer_of result ≡ given (verdict (pointTests r.x r.y)) (report number (sortedBy (λ d. liesTo r (district (points sx.now sy.now) runs.now d)))) }
+    ensures { answer_of result ≡ given (verdict (point_tests r.x r.y)) (report number (sorted_by (λ d. lies_to r (district (points sx.now sy.now) runs.now d)))) }
 {
     if off_grid(r) {
         return Assigned::Refused(Refusal::BeyondGrid);
@@ -150,7 +150,7 @@ pub fn assign_listed(
 ) -> Assigned
     requires good_runs { GoodRuns sx.now sy.now runs.now }
     requires indexed { Indexed sx.now sy.now runs.now bx.now by.now mx.now my.now ax ay }
-    ensures { (outline : List Point) → answer_of result ≡ assignedAt true (meaning outline (points sx.now sy.now) runs.now) number position }
+    ensures { (outline : List Point) → answer_of result ≡ assigned_at true (meaning outline (points sx.now sy.now) runs.now) number position }
 {
     if districts::outline_size(runs) == 0 {
         return Assigned::Refused(Refusal::NoOutline);

@@ -3,7 +3,7 @@ ghost use Rattle.std.specs.Prelude.{◌≡◌};
 ghost use Rattle.districts.specs.Answers.{answer_of};
 ghost use Rattle.refusals.specs.Numbers.{number_of};
 ghost use Rattle.districts.specs.Lent.{lent, formed, means};
-ghost use Rattle.register.specs.Placing.{assignedAt, refusedAs};
+ghost use Rattle.register.specs.Placing.{assigned_at, refused_as};
 ghost use Rattle.register.specs.Spots.{Spots};
 
 use crate::{Position, assign};
@@ -41,7 +41,7 @@ pub fn spot_of(position: Position) -> Spot
 
 // Refusals 1 and 2, then the given one.
 fn refused(ox: &[i32], oy: &[i32], sx: &[i32], sy: &[i32], runs: &[u32], why: Refusal) -> Assigned
-    ensures { answer_of result ≡ refusedAs (formed (lent ox.now oy.now sx.now sy.now runs.now)) (means (lent ox.now oy.now sx.now sy.now runs.now)) (number_of why) }
+    ensures { answer_of result ≡ refused_as (formed (lent ox.now oy.now sx.now sy.now runs.now)) (means (lent ox.now oy.now sx.now sy.now runs.now)) (number_of why) }
 {
     match districts::usable(ox, oy, sx, sy, runs) {
         Verdict::Accepted => Assigned::Refused(why),
@@ -59,7 +59,7 @@ pub fn assign_at(
     number: u32,
     position: Position,
 ) -> Assigned
-    ensures { answer_of result ≡ assignedAt (formed (lent ox.now oy.now sx.now sy.now runs.now)) (means (lent ox.now oy.now sx.now sy.now runs.now)) number position }
+    ensures { answer_of result ≡ assigned_at (formed (lent ox.now oy.now sx.now sy.now runs.now)) (means (lent ox.now oy.now sx.now sy.now runs.now)) number position }
 {
     match spot_of(position) {
         Spot::At(r) => assign(ox, oy, sx, sy, runs, number, r.x, r.y),

@@ -1,14 +1,14 @@
 // Assigning a report: every district in turn, the parts of the store's columns that are its run handed to locating.
 ghost use Rattle.std.specs.Prelude.{◌≡◌, ◌||◌, ◌<◌};
 ghost use Rattle.ring.specs.Grid.{beyond};
-ghost use Rattle.ring.specs.Locate.{locatedOn};
+ghost use Rattle.ring.specs.Locate.{located_on};
 ghost use Rattle.ring.specs.Walk.{OnGrid};
 ghost use Rattle.ring.specs.Columns.{points};
 ghost use Rattle.columns.specs.Walk.{Ready};
 ghost use Rattle.districts.specs.Lists.{district};
 ghost use Rattle.refusals.specs.Verdicts.{verdict};
 ghost use Rattle.districts.specs.Answers.{belongs, report, answer_of};
-ghost use Rattle.register.specs.Sorting.{liesTo, sortedBy, pointTests, given, assigned};
+ghost use Rattle.register.specs.Sorting.{lies_to, sorted_by, point_tests, given, assigned};
 ghost use Rattle.register.specs.Standing.{Stands};
 ghost use Rattle.districts.specs.Lent.{lent, formed, means, GoodRuns};
 
@@ -21,7 +21,7 @@ use ring::Point;
 // How r lies to a ring. It is walked along only if neither of r's lines misses it; the row is asked first, or the column.
 fn lies_to_ring(xs: &[i32], ys: &[i32], r: Point, row_first: bool) -> Stance
     requires { Ready xs.now ys.now r }
-    ensures { Stands result (locatedOn (points xs.now ys.now) r) }
+    ensures { Stands result (located_on (points xs.now ys.now) r) }
 {
     match columns::missing(xs, ys, r, row_first) {
         Miss::By(row) => Stance::Missed(row),
@@ -34,7 +34,7 @@ fn lies(sx: &[i32], sy: &[i32], runs: &[u32], d: usize, r: Point, row_first: boo
     requires good_runs { GoodRuns sx.now sy.now runs.now }
     requires d_bound { d < 64 }
     requires on_grid { OnGrid r }
-    ensures { Stands result (liesTo r (district (points sx.now sy.now) runs.now d)) }
+    ensures { Stands result (lies_to r (district (points sx.now sy.now) runs.now d)) }
 {
     let n = districts::size(runs, d);
     if n == 0 {
@@ -50,7 +50,7 @@ fn lies(sx: &[i32], sy: &[i32], runs: &[u32], d: usize, r: Point, row_first: boo
 fn sort(sx: &[i32], sy: &[i32], runs: &[u32], r: Point) -> Class
     requires good_runs { GoodRuns sx.now sy.now runs.now }
     requires on_grid { OnGrid r }
-    ensures { belongs result ≡ sortedBy (λ d. liesTo r (district (points sx.now sy.now) runs.now d)) }
+    ensures { belongs result ≡ sorted_by (λ d. lies_to r (district (points sx.now sy.now) runs.now d)) }
 {
     let mut seen = Seen {
         lowest: NUMBERS,
@@ -82,7 +82,7 @@ pub fn off_grid(r: Point) -> bool
 // Where report `number` at r belongs, in a register that is well-formed and has an outline.
 fn place(sx: &[i32], sy: &[i32], runs: &[u32], number: u32, r: Point) -> Assigned
     requires { GoodRuns sx.now sy.now runs.now }
-    ensures { answer_of result ≡ given (verdict (pointTests r.x r.y)) (report number (sortedBy (λ d. liesTo r (district (points sx.now sy.now) runs.now d)))) }
+    ensures { answer_of result ≡ given (verdict (point_tests r.x r.y)) (report number (sorted_by (λ d. lies_to r (district (points sx.now sy.now) runs.now d)))) }
 {
     if off_grid(r) {
         return Assigned::Refused(Refusal::BeyondGrid);

@@ -1,10 +1,10 @@
 // How a point lies to a district, and what is seen of all districts when a report is sorted.
 ghost use Rattle.std.specs.Prelude.{◌≡◌, Bool, not, ◌+◌, ◌<◌, leb, pos};
-ghost use Rattle.exact.specs.Sign.{eqZ};
+ghost use Rattle.exact.specs.Sign.{eq_z};
 ghost use Rattle.ring.specs.Choices.{pick};
 ghost use Rattle.ring.specs.Locate.{off, place_of};
 ghost use Rattle.districts.specs.Answers.{belongs};
-ghost use Rattle.register.specs.Sorting.{byCount};
+ghost use Rattle.register.specs.Sorting.{by_count};
 ghost use Rattle.register.specs.Standing.{Stands};
 
 use districts::{Class, NUMBERS};
@@ -28,7 +28,7 @@ pub struct Seen {
 }
 
 fn turned(w: Winding) -> bool
-    ensures { result ≡ not (eqZ w.0 (pos 0)) }
+    ensures { result ≡ not (eq_z w.0 (pos 0)) }
 {
     (w.0 < 0) | (0 < w.0)
 }
@@ -71,7 +71,7 @@ impl Seen {
 
     // The class of a point on no border.
     pub fn class(self) -> Class
-        ensures { belongs result ≡ byCount self.many self.lowest }
+        ensures { belongs result ≡ by_count self.many self.lowest }
     {
         let many = self.many;
         if many == 0 {

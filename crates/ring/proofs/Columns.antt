@@ -7,7 +7,7 @@ use mathlib.Core.Bool.{Bool, true, false, ◌||◌}
 use mathlib.Core.List.{List, [], ◌∷◌, ◌++◌}
 use lib.IntN.{ℤ, pos}
 use lib.ListN.{length, get_or, take, drop, set, length-take, length-drop}
-use Rattle.ring.specs.Grid.{point, beyond, someBeyond, vertices}
+use Rattle.ring.specs.Grid.{point, beyond, some_beyond, vertices}
 use Rattle.ring.specs.Columns.{points, interleaved}
 use Rattle.ring.specs.Rings.{at}
 use Rattle.ring.proofs.Vertices.{origin, at-within}
@@ -120,9 +120,9 @@ or-shuffle false true true d = refl
 or-shuffle false true false d = refl
 or-shuffle false false c d = refl
 
-pub interleaved-beyond : (xs ys : List ℤ) → length xs ≡ length ys → someBeyond (interleaved xs ys) ≡ (someBeyond xs || someBeyond ys)
+pub interleaved-beyond : (xs ys : List ℤ) → length xs ≡ length ys → some_beyond (interleaved xs ys) ≡ (some_beyond xs || some_beyond ys)
 unfolding interleaved
 interleaved-beyond [] [] e = refl
 interleaved-beyond [] (y ∷ ys) e = absurd (let f : ⊥ = omega arith in f)
 interleaved-beyond (x ∷ xs) [] e = absurd (let f : ⊥ = omega arith in f)
-interleaved-beyond (x ∷ xs) (y ∷ ys) e = ap (λ (b : Bool). beyond x || (beyond y || b)) (interleaved-beyond xs ys (omega arith)) ∙ or-shuffle (beyond x) (beyond y) (someBeyond xs) (someBeyond ys)
+interleaved-beyond (x ∷ xs) (y ∷ ys) e = ap (λ (b : Bool). beyond x || (beyond y || b)) (interleaved-beyond xs ys (omega arith)) ∙ or-shuffle (beyond x) (beyond y) (some_beyond xs) (some_beyond ys)

@@ -12,9 +12,9 @@ use mir.Facts.{to_z-of_z}
 use borrow.Author.Tests.{ltb-false}
 use Rattle.exact.specs.declared.Arrow.{Arrow}
 use Rattle.exact.specs.Sign.{Short, cross}
-use Rattle.exact.proofs.Bounds.{natAbs-sub, within-fits}
+use Rattle.exact.proofs.Bounds.{nat_abs-sub, within-fits}
 use Rattle.ring.specs.declared.Point.{Point}
-use Rattle.ring.specs.Grid.{point, beyond, someBeyond, vertices}
+use Rattle.ring.specs.Grid.{point, beyond, some_beyond, vertices}
 use Rattle.ring.specs.Rings.{at}
 use Rattle.ring.specs.Turns.{determinant}
 use Rattle.ring.specs.Walk.{head_of, OnGrid, Way}
@@ -31,14 +31,14 @@ pub point-on-grid : (x y : ℤ) → beyond x ≡ false → beyond y ≡ false �
 point-on-grid x y d e = record { across = within-grid x d; up = within-grid y e }
 
 -- a list too short has the origin there
-pub vertex-within : (xs : List ℤ) → someBeyond xs ≡ false → (i : ℕ) → (beyond (get_or (vertices xs) i origin).x ≡ false) × (beyond (get_or (vertices xs) i origin).y ≡ false)
+pub vertex-within : (xs : List ℤ) → some_beyond xs ≡ false → (i : ℕ) → (beyond (get_or (vertices xs) i origin).x ≡ false) × (beyond (get_or (vertices xs) i origin).y ≡ false)
 unfolding vertices
 vertex-within [] e i = (refl, refl)
 vertex-within (x ∷ []) e i = (refl, refl)
 vertex-within (x ∷ y ∷ xs) e zero = (neither_left (beyond x) _ e, neither_left (beyond y) _ (neither_right (beyond x) _ e))
 vertex-within (x ∷ y ∷ xs) e (suc i) = vertex-within xs (neither_right (beyond y) _ (neither_right (beyond x) _ e)) i
 
-pub vertex-on-grid : (xs : List ℤ) → someBeyond xs ≡ false → (i : ℕ) → OnGrid (at (vertices xs) i)
+pub vertex-on-grid : (xs : List ℤ) → some_beyond xs ≡ false → (i : ℕ) → OnGrid (at (vertices xs) i)
 unfolding at
 vertex-on-grid xs e i =
     let p = at (vertices xs) i in
@@ -66,8 +66,8 @@ way-between R P a r p e =
       x = x;
       y = y;
       short = record {
-        across = rw x (omega (arith, natAbs-sub P.x R.x, r.across, p.across));
-        up = rw y (omega (arith, natAbs-sub P.y R.y, r.up, p.up));
+        across = rw x (omega (arith, nat_abs-sub P.x R.x, r.across, p.across));
+        up = rw y (omega (arith, nat_abs-sub P.y R.y, r.up, p.up));
       };
     }
 

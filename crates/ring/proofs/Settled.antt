@@ -16,8 +16,8 @@ use Rattle.ring.specs.declared.places.Met.{Met}
 use Rattle.ring.specs.Choices.{pick}
 use Rattle.ring.specs.Rings.{at}
 use Rattle.ring.specs.Turns.{winding, oddly}
-use Rattle.ring.specs.Locate.{Place, vertex, edge, on, off, lowest, highest, atVertex, onEdge, touching, locatedOn}
-use Rattle.ring.specs.Walk.{Counted, span, metAt}
+use Rattle.ring.specs.Locate.{Place, vertex, edge, on, off, lowest, highest, at_vertex, on_edge, touching, located_on}
+use Rattle.ring.specs.Walk.{Counted, span, met_at}
 use Rattle.ring.proofs.Pick.{pick_true, pick-false}
 use Rattle.ring.proofs.Search.{lowest-over, Unmet, unmet-all}
 use Rattle.ring.proofs.Crossings.{end-off}
@@ -27,50 +27,50 @@ pub part-whole : (xs : List ℤ) (k : ℕ) → length xs ≤ k → take (k - 0) 
 part-whole xs k h = take_all (k - 0) xs (omega arith)
 
 -- a point that no edge holds is off the ring
-pub off-ring : (P : List Point) (R : Point) → Unmet (onEdge P R) (length P) → locatedOn P R ≡ off (winding P R) (oddly (winding P R))
-unfolding locatedOn
+pub off-ring : (P : List Point) (R : Point) → Unmet (on_edge P R) (length P) → located_on P R ≡ off (winding P R) (oddly (winding P R))
+unfolding located_on
 off-ring P R free =
-    pick-false (past (atVertex P R) (λ j l. (end-off R (at P j) (at P (suc j)) (free j l)).0)) _ _ ∙ pick-false (past (onEdge P R) free) _ _
+    pick-false (past (at_vertex P R) (λ j l. (end-off R (at P j) (at P (suc j)) (free j l)).0)) _ _ ∙ pick-false (past (on_edge P R) free) _ _
   where
     past : (p : ℕ → Bool) → Unmet p (length P) → ltb (lowest p (length P) 0) (length P) ≡ false
     past p u = le-ltb (lowest p (length P) 0) (length P) (omega (arith, unmet-all p (length P) (length P) (le_refl (length P)) u))
 
 module _ (P : List Point) (R : Point) (c : Count) (counted : Counted P R c) where
   -- the count of a point that no edge holds
-  off-counted : Unmet (onEdge P R) (length P) → off c.turns (oddly c.turns) ≡ off (winding P R) (oddly (winding P R))
-  off-counted free = let turns = counted.turns (λ j l. ap (onEdge P R) (zero-add j) ∙ free j l) in (λ i. off (turns i) (oddly (turns i)))
+  off-counted : Unmet (on_edge P R) (length P) → off c.turns (oddly c.turns) ≡ off (winding P R) (oddly (winding P R))
+  off-counted free = let turns = counted.turns (λ j l. ap (on_edge P R) (zero-add j) ∙ free j l) in (λ i. off (turns i) (oddly (turns i)))
 
   -- no determinant was 0
-  pub clear-off : 0 < c.clear → off c.turns (oddly c.turns) ≡ locatedOn P R
-  clear-off h = let free : Unmet (onEdge P R) (length P) = λ j l. ap (onEdge P R) (sym (zero-add j)) ∙ counted.clear h j l in off-counted free ∙ sym (off-ring P R free)
+  pub clear-off : 0 < c.clear → off c.turns (oddly c.turns) ≡ located_on P R
+  clear-off h = let free : Unmet (on_edge P R) (length P) = λ j l. ap (on_edge P R) (sym (zero-add j)) ∙ counted.clear h j l in off-counted free ∙ sym (off-ring P R free)
 
   -- what is answered where the point was met as m, or was not, on a ring of n vertices
-  abbrev settledBy : ℕ → Met → Place
-  settledBy n m = pick (ltb m.at.lowest n) (on (pick m.vertex vertex edge m.at.lowest m.at.highest)) (off c.turns (oddly c.turns))
+  abbrev settled_by : ℕ → Met → Place
+  settled_by n m = pick (ltb m.at.lowest n) (on (pick m.vertex vertex edge m.at.lowest m.at.highest)) (off c.turns (oddly c.turns))
 
-  all-met : settledBy (length P) (metAt P R (length P)) ≡ locatedOn P R
-  unfolding locatedOn
+  all-met : settled_by (length P) (met_at P R (length P)) ≡ located_on P R
+  unfolding located_on
   all-met = first (ltb v n) refl
     where
       n : ℕ
       n = length P
 
       v : ℕ
-      v = lowest (atVertex P R) n 0
+      v = lowest (at_vertex P R) n 0
 
       e : ℕ
-      e = lowest (onEdge P R) n 0
+      e = lowest (on_edge P R) n 0
 
       otherwise : Place
       otherwise = off (winding P R) (oddly (winding P R))
 
-      second : (b : Bool) → ltb e n ≡ b → pick b (on (edge e (highest (onEdge P R) n))) (off c.turns (oddly c.turns)) ≡ pick b (on (edge e (highest (onEdge P R) n))) otherwise
+      second : (b : Bool) → ltb e n ≡ b → pick b (on (edge e (highest (on_edge P R) n))) (off c.turns (oddly c.turns)) ≡ pick b (on (edge e (highest (on_edge P R) n))) otherwise
       second true s = refl
-      second false s = off-counted (lowest-over (onEdge P R) n (ltb-false e n s))
+      second false s = off-counted (lowest-over (on_edge P R) n (ltb-false e n s))
 
-      first : (b : Bool) → ltb v n ≡ b → settledBy n (pick b (record { vertex = true; at = span (atVertex P R) n }) (record { vertex = false; at = span (onEdge P R) n })) ≡ pick b (on (vertex v (highest (atVertex P R) n))) (touching edge n e (highest (onEdge P R) n) otherwise)
+      first : (b : Bool) → ltb v n ≡ b → settled_by n (pick b (record { vertex = true; at = span (at_vertex P R) n }) (record { vertex = false; at = span (on_edge P R) n })) ≡ pick b (on (vertex v (highest (at_vertex P R) n))) (touching edge n e (highest (on_edge P R) n) otherwise)
       first true s = pick_true s _ _
       first false s = second (ltb e n) refl
 
-  pub settled : (n : ℕ) (m : Met) → length P ≡ n → m ≡ metAt P R n → settledBy n m ≡ locatedOn P R
-  settled n m size e = (λ i. settledBy n (e i)) ∙ ap (λ k. settledBy k (metAt P R k)) (sym size) ∙ all-met
+  pub settled : (n : ℕ) (m : Met) → length P ≡ n → m ≡ met_at P R n → settled_by n m ≡ located_on P R
+  settled n m size e = (λ i. settled_by n (e i)) ∙ ap (λ k. settled_by k (met_at P R k)) (sym size) ∙ all-met

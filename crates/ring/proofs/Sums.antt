@@ -10,8 +10,8 @@ use lib.ListN.{length, get_or}
 use Rattle.exact.proofs.Fours.{quarter-neg}
 use Rattle.exact.proofs.Poly.{var, add, sub, identity}
 use Rattle.ring.specs.declared.Point.{Point}
-use Rattle.ring.specs.Rings.{at, Weight, Antisymmetric, total, ringSum}
-use Rattle.ring.specs.Turns.{quarterTurns, winding}
+use Rattle.ring.specs.Rings.{at, Weight, Antisymmetric, total, ring_sum}
+use Rattle.ring.specs.Turns.{quarter_turns, winding}
 use Rattle.ring.proofs.Vertices.{origin, at-within, at-end}
 use Rattle.ring.proofs.Quadrants.{turns-reverse}
 
@@ -61,31 +61,31 @@ total-along f s x z [] lists ends = +ℤ_idl (f (s 0) (s 1)) ∙ (λ i. f (lists
 total-along f s x z (y ∷ ys) lists ends = total-front f s (suc (length ys))
     ∙ (λ i. f (lists 0 (omega arith) i) (lists 1 (omega arith) i) +ℤ total-along f (λ j. s (suc j)) y z ys (λ j h. lists (suc j) (omega arith)) ends i)
 
-pub ringSum-along : (f : Weight) (x : Point) (xs : List Point) → ringSum f (x ∷ xs) ≡ along f x xs x
-unfolding ringSum
-ringSum-along f x xs = total-along f (at (x ∷ xs)) x x xs (at-within (x ∷ xs)) (at-end (x ∷ xs) (omega arith) ∙ at-within (x ∷ xs) 0 (omega arith))
+pub ring_sum-along : (f : Weight) (x : Point) (xs : List Point) → ring_sum f (x ∷ xs) ≡ along f x xs x
+unfolding ring_sum
+ring_sum-along f x xs = total-along f (at (x ∷ xs)) x x xs (at-within (x ∷ xs)) (at-end (x ∷ xs) (omega arith) ∙ at-within (x ∷ xs) 0 (omega arith))
 
 -- ---- the two laws, and what they say of the winding number
 
 -- a ring sum does not depend on the vertex that the list starts with
-pub ringSum-from : (f : Weight) (xs ys : List Point) → ringSum f (ys ++ xs) ≡ ringSum f (xs ++ ys)
-ringSum-from f [] ys = ap (ringSum f) (append-nil ys)
-ringSum-from f (x ∷ xs) [] = ap (ringSum f) (sym (append-nil (x ∷ xs)))
-ringSum-from f (x ∷ xs) (y ∷ ys) = apart y x ys xs ∙ +ℤ_comm (along f y ys x) (along f x xs y) ∙ sym (apart x y xs ys)
+pub ring_sum-from : (f : Weight) (xs ys : List Point) → ring_sum f (ys ++ xs) ≡ ring_sum f (xs ++ ys)
+ring_sum-from f [] ys = ap (ring_sum f) (append-nil ys)
+ring_sum-from f (x ∷ xs) [] = ap (ring_sum f) (sym (append-nil (x ∷ xs)))
+ring_sum-from f (x ∷ xs) (y ∷ ys) = apart y x ys xs ∙ +ℤ_comm (along f y ys x) (along f x xs y) ∙ sym (apart x y xs ys)
   where
-    apart : (x y : Point) (xs ys : List Point) → ringSum f ((x ∷ xs) ++ (y ∷ ys)) ≡ along f x xs y +ℤ along f y ys x
-    apart x y xs ys = ringSum-along f x (xs ++ (y ∷ ys)) ∙ along-append f x y x xs ys
+    apart : (x y : Point) (xs ys : List Point) → ring_sum f ((x ∷ xs) ++ (y ∷ ys)) ≡ along f x xs y +ℤ along f y ys x
+    apart x y xs ys = ring_sum-along f x (xs ++ (y ∷ ys)) ∙ along-append f x y x xs ys
 
 -- a ring listed backwards has the opposite sum, where an edge and its reverse cancel
-pub ringSum-reverse : (f : Weight) → Antisymmetric f → (P : List Point) → ringSum f (reverse P) ≡ neg_ℤ (ringSum f P)
-unfolding ringSum total
-ringSum-reverse f anti [] = refl
-ringSum-reverse f anti (x ∷ xs) = ap (ringSum f) (reverse-cons x xs) ∙ ringSum-from f (x ∷ []) (reverse xs) ∙ ringSum-along f x (reverse xs) ∙ along-reverse f anti x x xs ∙ ap neg_ℤ (sym (ringSum-along f x xs))
+pub ring_sum-reverse : (f : Weight) → Antisymmetric f → (P : List Point) → ring_sum f (reverse P) ≡ neg_ℤ (ring_sum f P)
+unfolding ring_sum total
+ring_sum-reverse f anti [] = refl
+ring_sum-reverse f anti (x ∷ xs) = ap (ring_sum f) (reverse-cons x xs) ∙ ring_sum-from f (x ∷ []) (reverse xs) ∙ ring_sum-along f x (reverse xs) ∙ along-reverse f anti x x xs ∙ ap neg_ℤ (sym (ring_sum-along f x xs))
 
 pub winding-from : (R : Point) (xs ys : List Point) → winding (ys ++ xs) R ≡ winding (xs ++ ys) R
 unfolding winding
-winding-from R xs ys = ap (λ (z : ℤ). quot_z z (pos 4)) (ringSum-from (quarterTurns R) xs ys)
+winding-from R xs ys = ap (λ (z : ℤ). quot_z z (pos 4)) (ring_sum-from (quarter_turns R) xs ys)
 
 pub winding-reverse : (R : Point) (P : List Point) → winding (reverse P) R ≡ neg_ℤ (winding P R)
 unfolding winding
-winding-reverse R P = ap (λ (z : ℤ). quot_z z (pos 4)) (ringSum-reverse (quarterTurns R) (turns-reverse R) P) ∙ quarter-neg (ringSum (quarterTurns R) P)
+winding-reverse R P = ap (λ (z : ℤ). quot_z z (pos 4)) (ring_sum-reverse (quarter_turns R) (turns-reverse R) P) ∙ quarter-neg (ring_sum (quarter_turns R) P)

@@ -11,10 +11,10 @@ use lib.IntN.{ℤ}
 use lib.ListN.{length}
 use borrow.Author.Tests.{ltb-true, ltb-false}
 use Rattle.ring.specs.declared.Point.{Point}
-use Rattle.ring.specs.Grid.{point, beyond, someBeyond, vertices, noRing}
+use Rattle.ring.specs.Grid.{point, beyond, some_beyond, vertices, no_ring}
 use Rattle.ring.specs.Choices.{pick}
 use Rattle.ring.specs.Turns.{winding, oddly}
-use Rattle.ring.specs.Locate.{vertex, edge, Place, on, off, refused, lowest, highest, atVertex, onEdge, locatedOn, located}
+use Rattle.ring.specs.Locate.{vertex, edge, Place, on, off, refused, lowest, highest, at_vertex, on_edge, located_on, located}
 use Rattle.ring.proofs.Search.{lowest-is, lowest-over, highest-is, Unmet}
 
 -- ---- both indices
@@ -58,72 +58,72 @@ high (refused n) = 0
 module _ (P : List Point) (R : Point) where
   abbrev chosen : Bool → Bool → Place
   chosen a b =
-      pick a (on (vertex (lowest (atVertex P R) (length P) 0) (highest (atVertex P R) (length P))))
-      (pick b (on (edge (lowest (onEdge P R) (length P) 0) (highest (onEdge P R) (length P))))
+      pick a (on (vertex (lowest (at_vertex P R) (length P) 0) (highest (at_vertex P R) (length P))))
+      (pick b (on (edge (lowest (on_edge P R) (length P) 0) (highest (on_edge P R) (length P))))
       (off (winding P R) (oddly (winding P R))))
 
   -- at a vertex: both are vertices that equal R
-  pub vertex-extremes : (i j : ℕ) → locatedOn P R ≡ on (vertex i j) → Extremes (atVertex P R) (length P) i j
-  unfolding locatedOn
-  vertex-extremes i j e = go (ltb (lowest (atVertex P R) (length P) 0) (length P)) (ltb (lowest (onEdge P R) (length P) 0) (length P)) refl e
+  pub vertex-extremes : (i j : ℕ) → located_on P R ≡ on (vertex i j) → Extremes (at_vertex P R) (length P) i j
+  unfolding located_on
+  vertex-extremes i j e = go (ltb (lowest (at_vertex P R) (length P) 0) (length P)) (ltb (lowest (on_edge P R) (length P) 0) (length P)) refl e
     where
-      go : (a b : Bool) → ltb (lowest (atVertex P R) (length P) 0) (length P) ≡ a → chosen a b ≡ on (vertex i j) → Extremes (atVertex P R) (length P) i j
-      go true b s h = subst₂ (Extremes (atVertex P R) (length P)) (ap low h) (ap high h) (extremes (atVertex P R) (length P) s)
+      go : (a b : Bool) → ltb (lowest (at_vertex P R) (length P) 0) (length P) ≡ a → chosen a b ≡ on (vertex i j) → Extremes (at_vertex P R) (length P) i j
+      go true b s h = subst₂ (Extremes (at_vertex P R) (length P)) (ap low h) (ap high h) (extremes (at_vertex P R) (length P) s)
       go false true s h = absurd (let f : ⊥ = omega (arith, ap kind h) in f)
       go false false s h = absurd (let f : ⊥ = omega (arith, ap kind h) in f)
 
   -- on an edge: both are edges that hold R, and no vertex equals it
-  pub edge-extremes : (i j : ℕ) → locatedOn P R ≡ on (edge i j) → Extremes (onEdge P R) (length P) i j × Unmet (atVertex P R) (length P)
-  unfolding locatedOn
-  edge-extremes i j e = go (ltb (lowest (atVertex P R) (length P) 0) (length P)) (ltb (lowest (onEdge P R) (length P) 0) (length P)) refl refl e
+  pub edge-extremes : (i j : ℕ) → located_on P R ≡ on (edge i j) → Extremes (on_edge P R) (length P) i j × Unmet (at_vertex P R) (length P)
+  unfolding located_on
+  edge-extremes i j e = go (ltb (lowest (at_vertex P R) (length P) 0) (length P)) (ltb (lowest (on_edge P R) (length P) 0) (length P)) refl refl e
     where
-      go : (a b : Bool) → ltb (lowest (atVertex P R) (length P) 0) (length P) ≡ a → ltb (lowest (onEdge P R) (length P) 0) (length P) ≡ b → chosen a b ≡ on (edge i j) → Extremes (onEdge P R) (length P) i j × Unmet (atVertex P R) (length P)
+      go : (a b : Bool) → ltb (lowest (at_vertex P R) (length P) 0) (length P) ≡ a → ltb (lowest (on_edge P R) (length P) 0) (length P) ≡ b → chosen a b ≡ on (edge i j) → Extremes (on_edge P R) (length P) i j × Unmet (at_vertex P R) (length P)
       go true b s t h = absurd (let f : ⊥ = omega (arith, ap kind h) in f)
-      go false true s t h = (subst₂ (Extremes (onEdge P R) (length P)) (ap low h) (ap high h) (extremes (onEdge P R) (length P) t), lowest-over (atVertex P R) (length P) (ltb-false _ _ s))
+      go false true s t h = (subst₂ (Extremes (on_edge P R) (length P)) (ap low h) (ap high h) (extremes (on_edge P R) (length P) t), lowest-over (at_vertex P R) (length P) (ltb-false _ _ s))
       go false false s t h = absurd (let f : ⊥ = omega (arith, ap kind h) in f)
 
 -- ---- the lowest alone
 
 pub data First : Type 0 where
-  firstVertex firstEdge : ℕ → First
-  offRing : ℤ → Bool → First
-  refusedBy : ℕ → First
+  first_vertex first_edge : ℕ → First
+  off_ring : ℤ → Bool → First
+  refused_by : ℕ → First
 
 -- the highest index left out
 abbrev pub first_of : Place → First
-first_of (on (vertex i j)) = firstVertex i
-first_of (on (edge i j)) = firstEdge i
-first_of (off w o) = offRing w o
-first_of (refused n) = refusedBy n
+first_of (on (vertex i j)) = first_vertex i
+first_of (on (edge i j)) = first_edge i
+first_of (off w o) = off_ring w o
+first_of (refused n) = refused_by n
 
 -- the lowest vertex that equals R before the lowest edge that holds it; otherwise off the ring
-abbrev pub firstOn : List Point → Point → First
-firstOn P R =
+abbrev pub first_on : List Point → Point → First
+first_on P R =
     let n = length P in
-    let v = lowest (atVertex P R) n 0 in
-    let e = lowest (onEdge P R) n 0 in
-    pick (ltb v n) (firstVertex v) (pick (ltb e n) (firstEdge e) (offRing (winding P R) (oddly (winding P R))))
+    let v = lowest (at_vertex P R) n 0 in
+    let e = lowest (on_edge P R) n 0 in
+    pick (ltb v n) (first_vertex v) (pick (ltb e n) (first_edge e) (off_ring (winding P R) (oddly (winding P R))))
 
-abbrev pub firstLocated : List ℤ → ℤ → ℤ → First
-firstLocated xs a b =
-    pick (noRing (length xs) (length xs / 2)) (refusedBy 4)
-    (pick (someBeyond xs || (beyond a || beyond b)) (refusedBy 5)
-    (firstOn (vertices xs) (point a b)))
+abbrev pub first_located : List ℤ → ℤ → ℤ → First
+first_located xs a b =
+    pick (no_ring (length xs) (length xs / 2)) (refused_by 4)
+    (pick (some_beyond xs || (beyond a || beyond b)) (refused_by 5)
+    (first_on (vertices xs) (point a b)))
 
-first_on : (P : List Point) (R : Point) → first_of (locatedOn P R) ≡ firstOn P R
-unfolding locatedOn
-first_on P R = go (ltb (lowest (atVertex P R) (length P) 0) (length P)) (ltb (lowest (onEdge P R) (length P) 0) (length P))
+first_on_lem : (P : List Point) (R : Point) → first_of (located_on P R) ≡ first_on P R
+unfolding located_on
+first_on_lem P R = go (ltb (lowest (at_vertex P R) (length P) 0) (length P)) (ltb (lowest (on_edge P R) (length P) 0) (length P))
   where
-    go : (a b : Bool) → first_of (chosen P R a b) ≡ pick a (firstVertex (lowest (atVertex P R) (length P) 0)) (pick b (firstEdge (lowest (onEdge P R) (length P) 0)) (offRing (winding P R) (oddly (winding P R))))
+    go : (a b : Bool) → first_of (chosen P R a b) ≡ pick a (first_vertex (lowest (at_vertex P R) (length P) 0)) (pick b (first_edge (lowest (on_edge P R) (length P) 0)) (off_ring (winding P R) (oddly (winding P R))))
     go true b = refl
     go false true = refl
     go false false = refl
 
-pub lowest-stays : (xs : List ℤ) (a b : ℤ) → first_of (located xs a b) ≡ firstLocated xs a b
+pub lowest-stays : (xs : List ℤ) (a b : ℤ) → first_of (located xs a b) ≡ first_located xs a b
 unfolding located
-lowest-stays xs a b = go (noRing (length xs) (length xs / 2)) (someBeyond xs || (beyond a || beyond b))
+lowest-stays xs a b = go (no_ring (length xs) (length xs / 2)) (some_beyond xs || (beyond a || beyond b))
   where
-    go : (s t : Bool) → first_of (pick s (refused 4) (pick t (refused 5) (locatedOn (vertices xs) (point a b)))) ≡ pick s (refusedBy 4) (pick t (refusedBy 5) (firstOn (vertices xs) (point a b)))
+    go : (s t : Bool) → first_of (pick s (refused 4) (pick t (refused 5) (located_on (vertices xs) (point a b)))) ≡ pick s (refused_by 4) (pick t (refused_by 5) (first_on (vertices xs) (point a b)))
     go true t = refl
     go false true = refl
-    go false false = first_on (vertices xs) (point a b)
+    go false false = first_on_lem (vertices xs) (point a b)

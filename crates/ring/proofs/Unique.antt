@@ -3,7 +3,7 @@ use mathlib.Core.Path.{◌≡◌, refl, sym, ap, ◌∙◌}
 use mathlib.Core.List.{List}
 use lib.IntN.{ℤ}
 use Rattle.ring.specs.declared.Parity.TheVariants.{Even, Odd}
-use Rattle.refusals.proofs.Numbers.{refusalOf, refusal-back}
+use Rattle.refusals.proofs.Numbers.{refusal_of, refusal-back}
 use Rattle.ring.specs.declared.Located.{Located}
 use Rattle.ring.specs.declared.Located.TheVariants.{On, Off, Refused}
 use Rattle.ring.specs.declared.Touch as CodeTouch
@@ -12,18 +12,18 @@ use Rattle.ring.specs.Choices.{pick}
 use Rattle.ring.specs.Locate.{Touch, vertex, edge, Place, on, off, refused, located, touch_of, place_of}
 
 -- the code's answer that says a place: the rules' numbers and values are read back
-abbrev pub codeTouch : Touch → CodeTouch.Touch
-codeTouch (vertex i j) = Vertex i j
-codeTouch (edge i j) = Edge i j
+abbrev pub code_touch : Touch → CodeTouch.Touch
+code_touch (vertex i j) = Vertex i j
+code_touch (edge i j) = Edge i j
 
-pub touch-back : (t : CodeTouch.Touch) → codeTouch (touch_of t) ≡ t
+pub touch-back : (t : CodeTouch.Touch) → code_touch (touch_of t) ≡ t
 touch-back (Vertex i j) = refl
 touch-back (Edge i j) = refl
 
 abbrev answer_of : Place → Located
-answer_of (on t) = On (codeTouch t)
+answer_of (on t) = On (code_touch t)
 answer_of (off w odd) = Off (record { 0 = w }) (pick odd Odd Even)
-answer_of (refused n) = Refused (refusalOf n)
+answer_of (refused n) = Refused (refusal_of n)
 
 answer-place : (r : Located) → answer_of (place_of r) ≡ r
 answer-place (On t) = ap On (touch-back t)
@@ -32,8 +32,8 @@ answer-place (Off w Odd) = refl
 answer-place (Refused r) = ap Refused (refusal-back r)
 
 -- two answers that say the same are the same
-pub placeOf-injective : (r s : Located) → place_of r ≡ place_of s → r ≡ s
-placeOf-injective r s e = sym (answer-place r) ∙ ap answer_of e ∙ answer-place s
+pub place_of-injective : (r s : Located) → place_of r ≡ place_of s → r ≡ s
+place_of-injective r s e = sym (answer-place r) ∙ ap answer_of e ∙ answer-place s
 
 pub one-outcome : (xs : List ℤ) (a b : ℤ) (r s : Located) → place_of r ≡ located xs a b → place_of s ≡ located xs a b → r ≡ s
-one-outcome xs a b r s e f = placeOf-injective r s (e ∙ sym f)
+one-outcome xs a b r s e f = place_of-injective r s (e ∙ sym f)

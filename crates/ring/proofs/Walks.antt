@@ -10,18 +10,18 @@ use mathlib.Core.List.{List}
 use lib.ListN.{length}
 use lib.IntN.{ℤ, pos, nat_abs, ◌+ℤ◌, ◌-ℤ◌, +ℤ_assoc, +ℤ_comm, +ℤ_idl, +ℤ_idr, +ℤ_invr}
 use lib.Signed.{lt_z}
-use Rattle.exact.specs.Sign.{Sign, minus, nought, plus, sign, eqZ, cross}
-use Rattle.exact.proofs.Bounds.{natAbs-add}
-use Rattle.exact.proofs.Signs.{isPlus, isMinus, lt-sign, gt-sign}
+use Rattle.exact.specs.Sign.{Sign, minus, nought, plus, sign, eq_z, cross}
+use Rattle.exact.proofs.Bounds.{nat_abs-add}
+use Rattle.exact.proofs.Signs.{is_plus, is_minus, lt-sign, gt-sign}
 use Rattle.ring.specs.declared.Point.{Point}
 use Rattle.ring.specs.declared.counting.End.{End}
 use Rattle.ring.specs.declared.counting.Count.{Count}
 use Rattle.ring.specs.Choices.{pick, count}
-use Rattle.ring.specs.Rings.{at, total, ringSum}
+use Rattle.ring.specs.Rings.{at, total, ring_sum}
 use Rattle.ring.specs.Turns.{determinant}
 use Rattle.ring.specs.Crossings.{below, crossing, steps}
-use Rattle.ring.specs.Segment.{onSegment}
-use Rattle.ring.specs.Locate.{onEdge}
+use Rattle.ring.specs.Segment.{on_segment}
+use Rattle.ring.specs.Locate.{on_edge}
 use Rattle.ring.specs.Walk.{Ready, Clean, Sight, Gone, Free, Counts, Aside, north, south, east, west, none, Counted}
 use Rattle.ring.proofs.Pick.{pick_true, pick-false}
 use Rattle.ring.proofs.OnGrid.{way-determinant}
@@ -70,14 +70,14 @@ module _ (P : List Point) (R : Point) where
   free-front i j k free m h = free m (omega arith)
 
   free_back : (i j k : ℕ) → Free P R i (j + k) → Free P R (i + j) k
-  free_back i j k free m h = ap (onEdge P R) (add_assoc i j m) ∙ free (j + m) (omega arith)
+  free_back i j k free m h = ap (on_edge P R) (add_assoc i j m) ∙ free (j + m) (omega arith)
 
   free-both : (i j k : ℕ) → Free P R i j → Free P R (i + j) k → Free P R i (j + k)
   free-both i j k front back m h = elim (dec_lt m j) [
     | yes low ↦ front m low
     | no high ↦
         let e : i + m ≡ (i + j) + (m - j) = omega arith in
-        ap (onEdge P R) e ∙ back (m - j) (omega arith)
+        ap (on_edge P R) e ∙ back (m - j) (omega arith)
   ]
 
   pub counts-on : (i j k : ℕ) (c v w : Count) → Counts P R i j c v → Counts P R (i + j) k v w → Counts P R i (j + k) c w
@@ -105,12 +105,12 @@ module _ (P : List Point) (R : Point) where
   counts-edge i e f c v s t g = record {
     turns = λ free.
         turned
-        ∙ ap (λ (z : ℤ). c.turns +ℤ z) (steps-crossing R (at P i) (at P (i + 1)) (ap (λ (k : ℕ). onSegment R (at P i) (at P k)) (add-one i) ∙ sym (ap (onEdge P R) (add-zero i)) ∙ free 0 (omega arith)))
+        ∙ ap (λ (z : ℤ). c.turns +ℤ z) (steps-crossing R (at P i) (at P (i + 1)) (ap (λ (k : ℕ). on_segment R (at P i) (at P k)) (add-one i) ∙ sym (ap (on_edge P R) (add-zero i)) ∙ free 0 (omega arith)))
         ∙ ap (λ (z : ℤ). c.turns +ℤ z) (sym ((λ x. pos 0 +ℤ crossing R (at P (add-zero i x)) (at P (i + 1))) ∙ +ℤ_idl (crossing R (at P i) (at P (i + 1)))));
     clear = λ h.
-        let told = cleared (eqZ (determinant R (at P i) (at P (i + 1))) (pos 0)) c.clear (subst (λ (n : ℕ). 0 < n) (g.clear ∙ ap (λ (d : ℤ). pick (eqZ d (pos 0)) 0 c.clear) line) h) in
-        (told.1, λ j l. ap (onEdge P R) (let z : i + j ≡ i = omega arith in z) ∙ ap (λ (k : ℕ). onSegment R (at P i) (at P k)) (sym (add-one i)) ∙ determinant-off R (at P i) (at P (i + 1)) told.0);
-    few = subst (λ (z : ℤ). nat_abs z ≤ nat_abs c.turns + 1) (sym turned) (omega (arith, natAbs-add c.turns added, counted-few (beq (lt_z (determinant R (at P i) (at P (i + 1))) (pos 0)) (below R (at P (i + 1)))) (below R (at P i)) (below R (at P (i + 1)))));
+        let told = cleared (eq_z (determinant R (at P i) (at P (i + 1))) (pos 0)) c.clear (subst (λ (n : ℕ). 0 < n) (g.clear ∙ ap (λ (d : ℤ). pick (eq_z d (pos 0)) 0 c.clear) line) h) in
+        (told.1, λ j l. ap (on_edge P R) (let z : i + j ≡ i = omega arith in z) ∙ ap (λ (k : ℕ). on_segment R (at P i) (at P k)) (sym (add-one i)) ∙ determinant-off R (at P i) (at P (i + 1)) told.0);
+    few = subst (λ (z : ℤ). nat_abs z ≤ nat_abs c.turns + 1) (sym turned) (omega (arith, nat_abs-add c.turns added, counted-few (beq (lt_z (determinant R (at P i) (at P (i + 1))) (pos 0)) (below R (at P (i + 1)))) (below R (at P i)) (below R (at P (i + 1)))));
   }
     where
       line : cross e.way f.way ≡ determinant R (at P i) (at P (i + 1))
@@ -136,23 +136,23 @@ module _ (P : List Point) (R : Point) where
 
   -- the edges count as g falls along them, and none of them holds R
   abbrev Falling : ℕ → ℕ → (Point → ℤ) → Type 0
-  Falling i k g = (j : ℕ) → j < k → (onSegment R (at P (i + j)) (at P (i + suc j)) ≡ false) × (crossing R (at P (i + j)) (at P (i + suc j)) ≡ g (at P (i + j)) -ℤ g (at P (i + suc j)))
+  Falling i k g = (j : ℕ) → j < k → (on_segment R (at P (i + j)) (at P (i + suc j)) ≡ false) × (crossing R (at P (i + j)) (at P (i + suc j)) ≡ g (at P (i + j)) -ℤ g (at P (i + suc j)))
 
   counts-falling : (i k : ℕ) (g : Point → ℤ) (c v : Count) → Falling i k g → v.turns ≡ c.turns +ℤ (g (at P i) -ℤ g (at P (i + k))) → nat_abs (g (at P i) -ℤ g (at P (i + k))) ≤ k → v.clear ≡ c.clear → Counts P R i k c v
   counts-falling i k g c v f e few same = record {
     turns = λ free. e ∙ ap (λ (z : ℤ). c.turns +ℤ z) (ap (λ (m : ℕ). g (at P m) -ℤ g (at P (i + k))) (sym (add-zero i)) ∙ sym (total_falls (crossing R) g (λ j. at P (i + j)) k (λ j h. (f j h).1)));
-    clear = λ h. (subst (λ (n : ℕ). 0 < n) same h, λ j l. ap (λ (m : ℕ). onSegment R (at P (i + j)) (at P m)) (sym (add-suc i j)) ∙ (f j l).0);
-    few = subst (λ (z : ℤ). nat_abs z ≤ nat_abs c.turns + k) (sym e) (omega (arith, natAbs-add c.turns (g (at P i) -ℤ g (at P (i + k)))));
+    clear = λ h. (subst (λ (n : ℕ). 0 < n) same h, λ j l. ap (λ (m : ℕ). on_segment R (at P (i + j)) (at P m)) (sym (add-suc i j)) ∙ (f j l).0);
+    few = subst (λ (z : ℤ). nat_abs z ≤ nat_abs c.turns + k) (sym e) (omega (arith, nat_abs-add c.turns (g (at P i) -ℤ g (at P (i + k)))));
   }
 
   -- nothing is counted
-  counts-nothing : (i k : ℕ) (c v : Count) → ((j : ℕ) → j < k → (onSegment R (at P (i + j)) (at P (i + suc j)) ≡ false) × (crossing R (at P (i + j)) (at P (i + suc j)) ≡ pos 0)) → v.turns ≡ c.turns → v.clear ≡ c.clear → Counts P R i k c v
+  counts-nothing : (i k : ℕ) (c v : Count) → ((j : ℕ) → j < k → (on_segment R (at P (i + j)) (at P (i + suc j)) ≡ false) × (crossing R (at P (i + j)) (at P (i + suc j)) ≡ pos 0)) → v.turns ≡ c.turns → v.clear ≡ c.clear → Counts P R i k c v
   counts-nothing i k c v f e = counts-falling i k (λ p. pos 0) c v f (e ∙ sym (+ℤ_idr c.turns)) (omega arith)
 
   not-both : (a x : ℤ) → lt_z a x ≡ true → lt_z x a ≡ false
   not-both a x e = gt-sign a x ∙ go (sign (x -ℤ a)) (sym (lt-sign a x) ∙ e)
     where
-      go : (s : Sign) → isPlus s ≡ true → isMinus s ≡ false
+      go : (s : Sign) → is_plus s ≡ true → is_minus s ≡ false
       go minus h = sym h
       go nought h = refl
       go plus h = refl
@@ -198,9 +198,9 @@ module _ (P : List Point) (R : Point) where
 
   -- the closing edge, and then the others
   pub counts_all : (n : ℕ) (c v : Count) → length P ≡ n → 1 ≤ n → n ≤ 2048 → Counts P R (n - 1) 1 none c → Counts P R 0 (n - 1) c v → Counted P R v
-  unfolding ringSum
+  unfolding ring_sum
   counts_all n c v size some most p q = record {
-    turns = λ free. turned free ∙ crossings-winding P R (omega (arith, size)) (λ i h. ap (onEdge P R) (sym (zero-add i)) ∙ free i h);
+    turns = λ free. turned free ∙ crossings-winding P R (omega (arith, size)) (λ i h. ap (on_edge P R) (sym (zero-add i)) ∙ free i h);
     clear = λ h. let rest = q.clear h in whole (p.clear rest.0).1 rest.1;
     few = omega (arith, p.few, q.few);
   }
@@ -208,15 +208,15 @@ module _ (P : List Point) (R : Point) where
       whole : Free P R (n - 1) 1 → Free P R 0 (n - 1) → Free P R 0 (length P)
       whole last rest j h = elim (dec_lt j (n - 1)) [
         | yes low ↦ rest j low
-        | no high ↦ ap (onEdge P R) (let e : 0 + j ≡ n - 1 + 0 = omega (arith, size, h, high) in e) ∙ last 0 (omega arith)
+        | no high ↦ ap (on_edge P R) (let e : 0 + j ≡ n - 1 + 0 = omega (arith, size, h, high) in e) ∙ last 0 (omega arith)
       ]
 
-      turned : Free P R 0 (length P) → v.turns ≡ ringSum (crossing R) P
+      turned : Free P R 0 (length P) → v.turns ≡ ring_sum (crossing R) P
       turned free =
           let front = total (crossing R) (at P) (n - 1) in
           let last = total (crossing R) (λ j. at P (n - 1 + j)) 1 in
           q.turns (λ j h. free j (omega (arith, size)))
-          ∙ (λ x. p.turns (λ j h. ap (onEdge P R) (let e : n - 1 + j ≡ 0 + (n - 1 + j) = omega arith in e) ∙ free (n - 1 + j) (omega (arith, size))) x +ℤ total (crossing R) (λ j. at P (zero-add j x)) (n - 1))
+          ∙ (λ x. p.turns (λ j h. ap (on_edge P R) (let e : n - 1 + j ≡ 0 + (n - 1 + j) = omega arith in e) ∙ free (n - 1 + j) (omega (arith, size))) x +ℤ total (crossing R) (λ j. at P (zero-add j x)) (n - 1))
           ∙ ap (λ (z : ℤ). z +ℤ front) (+ℤ_idl last)
           ∙ +ℤ_comm last front
           ∙ sym (total-split (crossing R) (at P) (n - 1) 1)

@@ -8,9 +8,9 @@ abbrev pub beyond : ℤ → Bool
 beyond x = lt_z x (negsuc 999_999_999) || lt_z (pos 1_000_000_000) x
 
 -- some number of the list is beyond the grid
-abbrev pub someBeyond : List ℤ → Bool
-someBeyond [] = false
-someBeyond (x ∷ xs) = beyond x || someBeyond xs
+abbrev pub some_beyond : List ℤ → Bool
+some_beyond [] = false
+some_beyond (x ∷ xs) = beyond x || some_beyond xs
 
 abbrev pub point : ℤ → ℤ → Point
 point x y = record { x = x; y = y }
@@ -22,12 +22,12 @@ vertices (x ∷ []) = []
 vertices (x ∷ y ∷ xs) = point x y ∷ vertices xs
 
 -- the fewest and the most vertices of a ring; all districts together have at most as many
-abbrev pub fewestVertices : ℕ
-fewestVertices = 3
+abbrev pub fewest_vertices : ℕ
+fewest_vertices = 3
 
-abbrev pub mostVertices : ℕ
-mostVertices = 2048
+abbrev pub most_vertices : ℕ
+most_vertices = 2048
 
 -- a list of m numbers that makes no ring: m is odd, or the m / 2 vertices are fewer than 3 or more than 2,048
-abbrev pub noRing : ℕ → ℕ → Bool
-noRing m n = eqb (m % 2) 1 || (ltb n fewestVertices || ltb mostVertices n)
+abbrev pub no_ring : ℕ → ℕ → Bool
+no_ring m n = eqb (m % 2) 1 || (ltb n fewest_vertices || ltb most_vertices n)

@@ -15,8 +15,8 @@ square = pos 0 ∷ pos 0 ∷ pos 4 ∷ pos 0 ∷ pos 4 ∷ pos 4 ∷ pos 0 ∷ p
 abbrev pub backwards : List ℤ
 backwards = pos 0 ∷ pos 4 ∷ pos 4 ∷ pos 4 ∷ pos 4 ∷ pos 0 ∷ pos 0 ∷ pos 0 ∷ []
 
-abbrev pub bowTie : List ℤ
-bowTie = pos 0 ∷ pos 0 ∷ pos 4 ∷ pos 4 ∷ pos 4 ∷ pos 0 ∷ pos 0 ∷ pos 4 ∷ []
+abbrev pub bow_tie : List ℤ
+bow_tie = pos 0 ∷ pos 0 ∷ pos 4 ∷ pos 4 ∷ pos 4 ∷ pos 0 ∷ pos 0 ∷ pos 4 ∷ []
 
 abbrev pub dot : List ℤ
 dot = pos 1 ∷ pos 1 ∷ pos 1 ∷ pos 1 ∷ pos 1 ∷ pos 1 ∷ []
@@ -43,9 +43,9 @@ known =
     ∷ record { ring = square ++ square; x = pos 2; y = pos 2; lies = off (pos 2) false }
     ∷ record { ring = square ++ square; x = pos 4; y = pos 4; lies = on (vertex 2 6) }
     ∷ record { ring = square ++ square; x = pos 0; y = pos 2; lies = on (edge 3 7) }
-    ∷ record { ring = bowTie; x = pos 3; y = pos 2; lies = off (negsuc 0) true }
-    ∷ record { ring = bowTie; x = pos 1; y = pos 2; lies = off (pos 1) true }
-    ∷ record { ring = bowTie; x = pos 2; y = pos 2; lies = on (edge 0 2) }
+    ∷ record { ring = bow_tie; x = pos 3; y = pos 2; lies = off (negsuc 0) true }
+    ∷ record { ring = bow_tie; x = pos 1; y = pos 2; lies = off (pos 1) true }
+    ∷ record { ring = bow_tie; x = pos 2; y = pos 2; lies = on (edge 0 2) }
     ∷ record { ring = dot; x = pos 1; y = pos 1; lies = on (vertex 0 2) }
     ∷ record { ring = dot; x = pos 0; y = pos 0; lies = off (pos 0) false }
     ∷ record { ring = flat; x = pos 3; y = pos 0; lies = on (edge 0 1) }

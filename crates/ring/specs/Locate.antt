@@ -8,10 +8,10 @@ use Rattle.ring.specs.declared.Located.{Located}
 use Rattle.ring.specs.declared.Located.TheVariants.{On, Off, Refused}
 use Rattle.ring.specs.declared.Touch as CodeTouch
 use Rattle.ring.specs.declared.Touch.TheVariants.{Vertex, Edge}
-use Rattle.ring.specs.Grid.{point, beyond, someBeyond, vertices, noRing}
+use Rattle.ring.specs.Grid.{point, beyond, some_beyond, vertices, no_ring}
 use Rattle.ring.specs.Choices.{pick}
 use Rattle.ring.specs.Rings.{at}
-use Rattle.ring.specs.Segment.{same, onSegment}
+use Rattle.ring.specs.Segment.{same, on_segment}
 use Rattle.ring.specs.Turns.{winding, oddly}
 
 -- where a point is on a ring: the lowest and the highest index of the vertices that equal it, or else of the edges that hold it
@@ -35,35 +35,35 @@ highest p zero = zero
 highest p (suc k) = pick (p k) k (highest p k)
 
 -- vertex i equals R
-abbrev pub atVertex : List Point → Point → ℕ → Bool
-atVertex P R i = same R (at P i)
+abbrev pub at_vertex : List Point → Point → ℕ → Bool
+at_vertex P R i = same R (at P i)
 
 -- R is on edge i
-abbrev pub onEdge : List Point → Point → ℕ → Bool
-onEdge P R i = onSegment R (at P i) (at P (suc i))
+abbrev pub on_edge : List Point → Point → ℕ → Bool
+on_edge P R i = on_segment R (at P i) (at P (suc i))
 
 -- on the ring, at the indices that pass a test, from low to high, where there are such below n; otherwise the other place
 abbrev pub touching : (ℕ → ℕ → Touch) → ℕ → ℕ → ℕ → Place → Place
 touching kind n low high other = pick (ltb low n) (on (kind low high)) other
 
 -- the vertices that equal R before the edges that hold it; otherwise off the ring
-unfoldable pub locatedOn : List Point → Point → Place
-locatedOn P R =
-    touching vertex (length P) (lowest (atVertex P R) (length P) 0) (highest (atVertex P R) (length P))
-    (touching edge (length P) (lowest (onEdge P R) (length P) 0) (highest (onEdge P R) (length P))
+unfoldable pub located_on : List Point → Point → Place
+located_on P R =
+    touching vertex (length P) (lowest (at_vertex P R) (length P) 0) (highest (at_vertex P R) (length P))
+    (touching edge (length P) (lowest (on_edge P R) (length P) 0) (highest (on_edge P R) (length P))
     (off (winding P R) (oddly (winding P R))))
 
 -- of any list and any point: refusal 4, then 5, then where the point lies
 unfoldable pub located : List ℤ → ℤ → ℤ → Place
 located xs a b =
-    pick (noRing (length xs) (length xs / 2)) (refused 4)
-    (pick (someBeyond xs || (beyond a || beyond b)) (refused 5)
-    (locatedOn (vertices xs) (point a b)))
+    pick (no_ring (length xs) (length xs / 2)) (refused 4)
+    (pick (some_beyond xs || (beyond a || beyond b)) (refused 5)
+    (located_on (vertices xs) (point a b)))
 
 -- what each enum of the code says, in the rules' numbers and values
-abbrev pub isOdd : Parity → Bool
-isOdd Even = false
-isOdd Odd = true
+abbrev pub is_odd : Parity → Bool
+is_odd Even = false
+is_odd Odd = true
 
 abbrev pub touch_of : CodeTouch.Touch → Touch
 touch_of (Vertex i j) = vertex i j
@@ -71,5 +71,5 @@ touch_of (Edge i j) = edge i j
 
 abbrev pub place_of : Located → Place
 place_of (On t) = on (touch_of t)
-place_of (Off w o) = off w.0 (isOdd o)
+place_of (Off w o) = off w.0 (is_odd o)
 place_of (Refused r) = refused (number_of r)

@@ -21,5 +21,5 @@ total f s zero = pos 0
 total f s (suc k) = total f s k +ℤ f (s k) (s (suc k))
 
 -- the weights of all edges of a ring, the closing one among them: edge n - 1 runs from P(n - 1) to Pn, which is P0
-unfoldable pub ringSum : Weight → List Point → ℤ
-ringSum f P = total f (at P) (length P)
+unfoldable pub ring_sum : Weight → List Point → ℤ
+ring_sum f P = total f (at P) (length P)

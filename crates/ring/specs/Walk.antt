@@ -2,19 +2,19 @@
 use Rattle.std.specs.Prelude.{ℕ, ◌+◌, ◌≤◌, ◌<◌, ◌≡◌, Bool, true, false, ◌&&◌, ◌||◌, List, ltb, length, get_or, ℤ, pos, nat_abs, ◌+ℤ◌, ◌-ℤ◌}
 use Rattle.std.specs.Int.Signed.{lt_z}
 use Rattle.exact.specs.declared.Arrow.{Arrow}
-use Rattle.exact.specs.Sign.{eqZ, Short, cross}
+use Rattle.exact.specs.Sign.{eq_z, Short, cross}
 use Rattle.ring.specs.declared.Point.{Point}
 use Rattle.ring.specs.declared.counting.End.{End}
 use Rattle.ring.specs.declared.counting.Count.{Count}
 use Rattle.ring.specs.declared.places.Span.{Span}
 use Rattle.ring.specs.declared.places.Met.{Met}
-use Rattle.ring.specs.Grid.{point, beyond, someBeyond, vertices}
+use Rattle.ring.specs.Grid.{point, beyond, some_beyond, vertices}
 use Rattle.ring.specs.Choices.{pick, count}
 use Rattle.ring.specs.Rings.{at, total}
 use Rattle.ring.specs.Turns.{winding}
 use Rattle.ring.specs.Crossings.{crossing, steps}
 use Rattle.ring.specs.Segment.{between}
-use Rattle.ring.specs.Locate.{lowest, highest, atVertex, onEdge}
+use Rattle.ring.specs.Locate.{lowest, highest, at_vertex, on_edge}
 
 -- the point that a way from (0, 0) leads to
 abbrev pub head_of : Arrow → Point
@@ -30,18 +30,18 @@ pub record Ready (xs : List ℤ) (n : ℕ) (R : Point) : Type 0 where
   pub even : length xs ≡ n + n
   pub least : 3 ≤ n
   pub most : n ≤ 2048
-  pub grid : someBeyond xs ≡ false
+  pub grid : some_beyond xs ≡ false
   pub point : OnGrid R
 
 -- the same where the number of vertices does not matter
 pub record Clean (xs : List ℤ) (R : Point) : Type 0 where
   pub most : length (vertices xs) ≤ 2048
-  pub grid : someBeyond xs ≡ false
+  pub grid : some_beyond xs ≡ false
   pub point : OnGrid R
 
 -- one of the four numbers from place i on is beyond the grid
-abbrev pub fourBeyond : List ℤ → ℕ → Bool
-fourBeyond xs i = (beyond (get_or xs i (pos 0)) || beyond (get_or xs (i + 1) (pos 0))) || (beyond (get_or xs (i + 2) (pos 0)) || beyond (get_or xs (i + 3) (pos 0)))
+abbrev pub four_beyond : List ℤ → ℕ → Bool
+four_beyond xs i = (beyond (get_or xs i (pos 0)) || beyond (get_or xs (i + 1) (pos 0))) || (beyond (get_or xs (i + 2) (pos 0)) || beyond (get_or xs (i + 3) (pos 0)))
 
 -- the way from one point of the grid to another
 pub record Way (R P : Point) (a : Arrow) : Type 0 where
@@ -50,12 +50,12 @@ pub record Way (R P : Point) (a : Arrow) : Type 0 where
   pub short : Short a
 
 -- the ends of two ways from R are in line with it, and it is between them
-abbrev pub inLine : Arrow → Arrow → Bool
-inLine a b = eqZ (cross a b) (pos 0) && (between (pos 0) a.x b.x && between (pos 0) a.y b.y)
+abbrev pub in_line : Arrow → Arrow → Bool
+in_line a b = eq_z (cross a b) (pos 0) && (between (pos 0) a.x b.x && between (pos 0) a.y b.y)
 
 -- more than the crossings of any ring: each edge counts 1 at most
-abbrev pub mostTurns : ℕ
-mostTurns = 4096
+abbrev pub most_turns : ℕ
+most_turns = 4096
 
 -- the end's mark is 1 where the way leads down, otherwise 0
 abbrev pub Marked : End → Type 0
@@ -69,11 +69,11 @@ pub record Sight (R P : Point) (e : End) : Type 0 where
 -- v is c after the edge from one end to the other
 pub record Gone (from to : End) (c v : Count) : Type 0 where
   pub turns : v.turns ≡ c.turns +ℤ steps (cross from.way to.way) (lt_z from.way.y (pos 0)) (lt_z to.way.y (pos 0))
-  pub clear : v.clear ≡ pick (eqZ (cross from.way to.way) (pos 0)) 0 c.clear
+  pub clear : v.clear ≡ pick (eq_z (cross from.way to.way) (pos 0)) 0 c.clear
 
 -- none of the k edges from vertex i on holds R
 abbrev pub Free : List Point → Point → ℕ → ℕ → Type 0
-Free P R i k = (j : ℕ) → j < k → onEdge P R (i + j) ≡ false
+Free P R i k = (j : ℕ) → j < k → on_edge P R (i + j) ≡ false
 
 -- v is c after the k edges from vertex i on: if none of them holds R it has their crossings more; and if it is clear, none does, and c was clear. (Where one holds R, what was
 -- counted is used by nobody.)
@@ -97,12 +97,12 @@ none = record { turns = pos 0; clear = 1 }
 pub record Counted (P : List Point) (R : Point) (c : Count) : Type 0 where
   pub turns : Free P R 0 (length P) → c.turns ≡ winding P R
   pub clear : 0 < c.clear → Free P R 0 (length P)
-  pub few : nat_abs c.turns ≤ mostTurns
+  pub few : nat_abs c.turns ≤ most_turns
 
 -- the indices below n that pass a test
 abbrev pub span : (ℕ → Bool) → ℕ → Span
 span p n = record { lowest = lowest p n 0; highest = highest p n }
 
 -- the vertices that equal R, or else the edges that hold it
-abbrev pub metAt : List Point → Point → ℕ → Met
-metAt P R n = pick (ltb (lowest (atVertex P R) n 0) n) (record { vertex = true; at = span (atVertex P R) n }) (record { vertex = false; at = span (onEdge P R) n })
+abbrev pub met_at : List Point → Point → ℕ → Met
+met_at P R n = pick (ltb (lowest (at_vertex P R) n 0) n) (record { vertex = true; at = span (at_vertex P R) n }) (record { vertex = false; at = span (on_edge P R) n })

@@ -2,11 +2,11 @@
 // if r lies to its right. Along an edge no branch is taken on what was read. Edges that r's row or column misses are passed over, some at a time.
 ghost use Rattle.std.specs.Prelude.{◌≡◌, ◌+◌, ◌-◌, ◌<◌, ◌≤◌, true, pos, nat_abs, ◌+ℤ◌, ◌-ℤ◌, length};
 ghost use Rattle.std.specs.Int.Signed.{lt_z};
-ghost use Rattle.exact.specs.Sign.{eqZ, Short};
+ghost use Rattle.exact.specs.Sign.{eq_z, Short};
 ghost use Rattle.ring.specs.Choices.{pick};
 ghost use Rattle.ring.specs.Grid.{vertices};
 ghost use Rattle.ring.specs.Rings.{at};
-ghost use Rattle.ring.specs.Walk.{head_of, Ready, Clean, mostTurns, Marked, Sight, Gone, Counts, Aside, none, Counted};
+ghost use Rattle.ring.specs.Walk.{head_of, Ready, Clean, most_turns, Marked, Sight, Gone, Counts, Aside, none, Counted};
 
 use crate::{Point, grid};
 
@@ -63,7 +63,7 @@ fn added(from: End, to: End, counts: bool) -> Step
 
 impl Count {
     fn with(self, s: Step) -> Count
-        requires turns_bound { nat_abs self.turns ≤ mostTurns }
+        requires turns_bound { nat_abs self.turns ≤ most_turns }
         requires s_bound { nat_abs s.0 ≤ 1 }
         ensures { (result.turns ≡ self.turns +ℤ s.0) × (result.clear ≡ self.clear) }
     {
@@ -75,7 +75,7 @@ impl Count {
 
     // The count after an edge with determinant d.
     fn noting(self, d: exact::Det) -> Count
-        ensures { (result.turns ≡ self.turns) × (result.clear ≡ pick (eqZ d.0 (pos 0)) 0 self.clear) }
+        ensures { (result.turns ≡ self.turns) × (result.clear ≡ pick (eq_z d.0 (pos 0)) 0 self.clear) }
     {
         if (d.0 <= 0) & (0 <= d.0) {
             return Count {
@@ -88,7 +88,7 @@ impl Count {
 
     // The count after the edge from one end to the other.
     pub fn along(self, from: End, to: End) -> Count
-        requires turns_bound { nat_abs self.turns ≤ mostTurns }
+        requires turns_bound { nat_abs self.turns ≤ most_turns }
         requires marked { Marked from × Marked to }
         requires short { Short from.way × Short to.way }
         ensures { Gone from to self result }
@@ -101,7 +101,7 @@ impl Count {
     // The count after edges from one end to the other that r's row or column misses: if they lie east of r, the two ends alone tell what they
     // count; otherwise they count nothing, and above or below the row the ends do not differ.
     pub fn past(self, from: End, to: End) -> Count
-        requires turns_bound { nat_abs self.turns ≤ mostTurns }
+        requires turns_bound { nat_abs self.turns ≤ most_turns }
         requires marked { Marked from × Marked to }
         ensures { (result.turns ≡ self.turns +ℤ pick (lt_z (pos 0) from.way.x) (from.low -ℤ to.low) (pos 0)) × (result.clear ≡ self.clear) }
     {
@@ -123,7 +123,7 @@ fn closing(ring: &[i32], n: usize, r: exact::Arrow) -> Count
 fn stretch(ring: &[i32], r: exact::Arrow, i: usize, k: usize, c: Count) -> Count
     requires clean { Clean ring.now (head_of r) }
     requires k_in_bounds { i + k < length (vertices ring.now) }
-    requires k_bound { nat_abs c.turns + k ≤ mostTurns }
+    requires k_bound { nat_abs c.turns + k ≤ most_turns }
     ensures { Counts (vertices ring.now) (head_of r) i k c result }
 {
     let mut count = c;
@@ -165,7 +165,7 @@ fn missed(ring: &[i32], r: Point, i: usize, k: usize) -> bool
 fn block(ring: &[i32], r: Point, i: usize, k: usize, c: Count) -> Count
     requires clean { Clean ring.now r }
     requires k_nonzero { (0 < k) × (i + k < length (vertices ring.now)) }
-    requires k_bound { nat_abs c.turns + k ≤ mostTurns }
+    requires k_bound { nat_abs c.turns + k ≤ most_turns }
     ensures { Counts (vertices ring.now) r i k c result }
 {
     let w = grid::wide(r);

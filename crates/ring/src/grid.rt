@@ -1,10 +1,10 @@
 // The grid and the vertices of a ring that is held as a list x0, y0, x1, y1, ..
 ghost use Rattle.std.specs.Prelude.{◌≡◌, ◌+◌, ◌<◌, ◌≤◌, negsuc, length};
 ghost use Rattle.std.specs.Int.Signed.{lt_z};
-ghost use Rattle.ring.specs.Grid.{beyond as isBeyond, someBeyond, vertices};
+ghost use Rattle.ring.specs.Grid.{beyond as is_beyond, some_beyond, vertices};
 ghost use Rattle.ring.specs.Rings.{at};
-ghost use Rattle.ring.specs.Segment.{same as samePoint};
-ghost use Rattle.ring.specs.Walk.{OnGrid, head_of, Clean, fourBeyond, Way};
+ghost use Rattle.ring.specs.Segment.{same as same_point};
+ghost use Rattle.ring.specs.Walk.{OnGrid, head_of, Clean, four_beyond, Way};
 
 use crate::Point;
 
@@ -16,7 +16,7 @@ const DOWN: i32 = -1_147_483_648;
 
 // x moved down, round the end: the grid comes first, what is above it next, and what is below it last. The compiler makes one addition of both.
 fn moved(x: i32) -> i32
-    ensures { lt_z (negsuc 147_483_647) result ≡ isBeyond x }
+    ensures { lt_z (negsuc 147_483_647) result ≡ is_beyond x }
 {
     if x < -LIMIT {
         return x + i32::MAX + (LIMIT + 1);
@@ -26,14 +26,14 @@ fn moved(x: i32) -> i32
 
 // By one comparison: two take longer, and of a test of many coordinates they are most.
 pub fn beyond(x: i32) -> bool
-    ensures { result ≡ isBeyond x }
+    ensures { result ≡ is_beyond x }
 {
     DOWN + LIMIT < moved(x)
 }
 
 // Whether some number of the list is beyond the grid. It reads the whole list, with no branch on what it reads.
 pub fn some_beyond(list: &[i32]) -> bool
-    ensures { result ≡ someBeyond list.now }
+    ensures { result ≡ some_beyond list.now }
 {
     let mut found = false;
     let mut i = 0;
@@ -47,7 +47,7 @@ pub fn some_beyond(list: &[i32]) -> bool
 // Whether one of the four numbers from place i on is beyond the grid.
 fn four_beyond(list: &[i32], i: usize) -> bool
     requires { i + 3 < length list.now }
-    ensures { result ≡ fourBeyond list.now i }
+    ensures { result ≡ four_beyond list.now i }
 {
     (beyond(list[i]) | beyond(list[i + 1])) | (beyond(list[i + 2]) | beyond(list[i + 3]))
 }
@@ -55,7 +55,7 @@ fn four_beyond(list: &[i32], i: usize) -> bool
 // Whether some number of a short list is beyond the grid. It goes four by four and stops where one is; the last four may have been looked at in part.
 pub fn some_beyond_short(list: &[i32]) -> bool
     requires { 4 ≤ length list.now }
-    ensures { result ≡ someBeyond list.now }
+    ensures { result ≡ some_beyond list.now }
 {
     let last = list.len() - 4;
     let mut i = 0;
@@ -70,7 +70,7 @@ pub fn some_beyond_short(list: &[i32]) -> bool
 
 // Whether two points are the same.
 pub fn same(p: Point, q: Point) -> bool
-    ensures { result ≡ samePoint p q }
+    ensures { result ≡ same_point p q }
 {
     ((p.x <= q.x) & (q.x <= p.x)) & ((p.y <= q.y) & (q.y <= p.y))
 }

@@ -7,7 +7,7 @@ mod places;
 mod walk;
 
 ghost use Rattle.std.specs.Prelude.{◌≡◌, ◌/◌};
-ghost use Rattle.ring.specs.Grid.{noRing};
+ghost use Rattle.ring.specs.Grid.{no_ring};
 ghost use Rattle.ring.specs.Locate.{located, place_of};
 
 pub use counting::{Count, End, block_size, marked};
@@ -57,7 +57,7 @@ pub enum Located {
 
 // Whether a list of m numbers makes no ring.
 pub fn no_ring(m: usize) -> bool
-    ensures { result ≡ noRing m (m / 2) }
+    ensures { result ≡ no_ring m (m / 2) }
 {
     let n = m / 2;
     (m % 2 == 1) | ((n < FEWEST_VERTICES) | (MOST_VERTICES < n))

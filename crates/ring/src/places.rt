@@ -3,9 +3,9 @@ ghost use Rattle.std.specs.Prelude.{◌≡◌, ◌&&◌, leb, pos};
 ghost use Rattle.exact.specs.Sign.{Short};
 ghost use Rattle.ring.specs.Choices.{pick};
 ghost use Rattle.ring.specs.Grid.{vertices};
-ghost use Rattle.ring.specs.Segment.{between as isBetween};
-ghost use Rattle.ring.specs.Locate.{lowest, highest, atVertex, onEdge};
-ghost use Rattle.ring.specs.Walk.{head_of, Ready, span, metAt, inLine};
+ghost use Rattle.ring.specs.Segment.{between as is_between};
+ghost use Rattle.ring.specs.Locate.{lowest, highest, at_vertex, on_edge};
+ghost use Rattle.ring.specs.Walk.{head_of, Ready, span, met_at, in_line};
 
 use crate::{Point, grid};
 
@@ -25,7 +25,7 @@ pub struct Met {
 
 // Whether two ways from r end on both sides of it, or at it, in x and in y.
 fn beside(from: exact::Arrow, to: exact::Arrow) -> bool
-    ensures { result ≡ (isBetween (pos 0) from.x to.x && isBetween (pos 0) from.y to.y) }
+    ensures { result ≡ (is_between (pos 0) from.x to.x && is_between (pos 0) from.y to.y) }
 {
     (((from.x <= 0) & (0 <= to.x)) | ((to.x <= 0) & (0 <= from.x)))
         & (((from.y <= 0) & (0 <= to.y)) | ((to.y <= 0) & (0 <= from.y)))
@@ -35,7 +35,7 @@ fn beside(from: exact::Arrow, to: exact::Arrow) -> bool
 fn holds(from: exact::Arrow, to: exact::Arrow) -> bool
     requires short { Short from }
     requires short_2 { Short to }
-    ensures { result ≡ inLine from to }
+    ensures { result ≡ in_line from to }
 {
     let d = exact::determinant(from, to);
     if (d.0 <= 0) & (0 <= d.0) {
@@ -56,7 +56,7 @@ impl Span {
     // With edge i if it holds r; the ways lead to its ends.
     pub fn along(self, i: usize, n: usize, from: exact::Arrow, to: exact::Arrow) -> Span
         requires { Short from × Short to }
-        ensures { (result.lowest ≡ pick (inLine from to) (pick (leb n self.lowest) i self.lowest) self.lowest) × (result.highest ≡ pick (inLine from to) i self.highest) }
+        ensures { (result.lowest ≡ pick (in_line from to) (pick (leb n self.lowest) i self.lowest) self.lowest) × (result.highest ≡ pick (in_line from to) i self.highest) }
     {
         if holds(from, to) {
             return self.with(i, n);
@@ -68,7 +68,7 @@ impl Span {
 // All edges that hold r.
 fn edges(ring: &[i32], n: usize, r: exact::Arrow) -> Span
     requires { Ready ring.now n (head_of r) }
-    ensures { result ≡ span (onEdge (vertices ring.now) (head_of r)) n }
+    ensures { result ≡ span (on_edge (vertices ring.now) (head_of r)) n }
 {
     let mut met = Span {
         lowest: n,
@@ -87,7 +87,7 @@ fn edges(ring: &[i32], n: usize, r: exact::Arrow) -> Span
 
 fn lowest_vertex(ring: &[i32], n: usize, r: Point) -> usize
     requires { Ready ring.now n r }
-    ensures { result ≡ lowest (atVertex (vertices ring.now) r) n 0 }
+    ensures { result ≡ lowest (at_vertex (vertices ring.now) r) n 0 }
 {
     let mut v = 0;
     while v < n {
@@ -101,7 +101,7 @@ fn lowest_vertex(ring: &[i32], n: usize, r: Point) -> usize
 
 fn highest_vertex(ring: &[i32], n: usize, r: Point) -> usize
     requires { Ready ring.now n r }
-    ensures { result ≡ highest (atVertex (vertices ring.now) r) n }
+    ensures { result ≡ highest (at_vertex (vertices ring.now) r) n }
 {
     let mut left = n;
     while 0 < left {
@@ -117,7 +117,7 @@ fn highest_vertex(ring: &[i32], n: usize, r: Point) -> usize
 // Where r is met. Vertices are looked for from both ends, which is quick; edges in one walk.
 pub fn find(ring: &[i32], n: usize, r: exact::Arrow) -> Met
     requires { Ready ring.now n (head_of r) }
-    ensures { result ≡ metAt (vertices ring.now) (head_of r) n }
+    ensures { result ≡ met_at (vertices ring.now) (head_of r) n }
 {
     let p = grid::narrow(r);
     let lowest = lowest_vertex(ring, n, p);

@@ -11,58 +11,58 @@ use lib.IntN.{ℤ}
 use lib.ListN.{length, take}
 use borrow.Author.Tests.{leb-true, eq-eqb, ne_eqb, le-leb}
 use Rattle.ring.specs.declared.Point.{Point}
-use Rattle.ring.specs.Grid.{someBeyond}
+use Rattle.ring.specs.Grid.{some_beyond}
 use Rattle.ring.specs.Columns.{points, interleaved}
 use Rattle.ring.proofs.Columns.{length-points, points-take, same-take, interleaved-beyond}
 use Rattle.ring.proofs.Pick.{neither_left, neither_right}
-use Rattle.districts.specs.Counts.{allTo}
-use Rattle.districts.specs.Lists.{outlineSize, firstPlace, size, part}
+use Rattle.districts.specs.Counts.{all_to}
+use Rattle.districts.specs.Lists.{outline_size, first_place, size, part}
 use Rattle.districts.specs.WellFormed as WellFormed
-use Rattle.districts.specs.WellFormed.{sized, total, counted, packed, wellFormed}
+use Rattle.districts.specs.WellFormed.{sized, total, counted, packed, well_formed}
 use Rattle.districts.specs.Lent as Lent
-use Rattle.districts.specs.Lent.{Lists, outlineOf, store_of}
-use Rattle.room.specs.Writing.{numbersOf}
+use Rattle.districts.specs.Lent.{Lists, outline_of, store_of}
+use Rattle.room.specs.Writing.{numbers_of}
 use Rattle.districts.proofs.Tests.{both_right, either, passes-left, passes-right}
 use Rattle.districts.proofs.Counting.{all_pass, all-each}
 use Rattle.districts.proofs.Sound as Known
 use Rattle.districts.proofs.Sound.{right-counts, right-packing, outline-sized, district-sized, total-most, none-without, outline-lengths, store-lengths, run_inside, outline-on-grid, store-on-grid}
 
 -- the numbers of the first points of two columns are on the grid exactly if those of both columns are
-numbers-points : (xs ys : List ℤ) → numbersOf (points xs ys) ≡ interleaved xs ys
-unfolding numbersOf points interleaved
+numbers-points : (xs ys : List ℤ) → numbers_of (points xs ys) ≡ interleaved xs ys
+unfolding numbers_of points interleaved
 numbers-points [] ys = refl
 numbers-points (x ∷ xs) [] = refl
 numbers-points (x ∷ xs) (y ∷ ys) = ap (λ zs. x ∷ y ∷ zs) (numbers-points xs ys)
 
-first-numbers : (xs ys : List ℤ) (n : ℕ) → length xs ≡ length ys → someBeyond (numbersOf (part (points xs ys) 0 n)) ≡ (someBeyond (part xs 0 n) || someBeyond (part ys 0 n))
+first-numbers : (xs ys : List ℤ) (n : ℕ) → length xs ≡ length ys → some_beyond (numbers_of (part (points xs ys) 0 n)) ≡ (some_beyond (part xs 0 n) || some_beyond (part ys 0 n))
 first-numbers xs ys n e =
-    ap (λ P. someBeyond (numbersOf P)) (points-take n xs ys)
-    ∙ ap someBeyond (numbers-points (take n xs) (take n ys))
+    ap (λ P. some_beyond (numbers_of P)) (points-take n xs ys)
+    ∙ ap some_beyond (numbers-points (take n xs) (take n ys))
     ∙ interleaved-beyond (take n xs) (take n ys) (same-take n xs ys e)
 
-columns-within : (xs ys : List ℤ) (n : ℕ) → length xs ≡ length ys → (someBeyond (part xs 0 n) ≡ false) × (someBeyond (part ys 0 n) ≡ false) → someBeyond (numbersOf (part (points xs ys) 0 n)) ≡ false
+columns-within : (xs ys : List ℤ) (n : ℕ) → length xs ≡ length ys → (some_beyond (part xs 0 n) ≡ false) × (some_beyond (part ys 0 n) ≡ false) → some_beyond (numbers_of (part (points xs ys) 0 n)) ≡ false
 columns-within xs ys n e f = first-numbers xs ys n e ∙ (λ i. f.0 i || f.1 i)
 
-within-columns : (xs ys : List ℤ) (n : ℕ) → length xs ≡ length ys → someBeyond (numbersOf (part (points xs ys) 0 n)) ≡ false → (someBeyond (part xs 0 n) ≡ false) × (someBeyond (part ys 0 n) ≡ false)
-within-columns xs ys n e f = let none = sym (first-numbers xs ys n e) ∙ f in (neither_left (someBeyond (part xs 0 n)) _ none, neither_right (someBeyond (part xs 0 n)) _ none)
+within-columns : (xs ys : List ℤ) (n : ℕ) → length xs ≡ length ys → some_beyond (numbers_of (part (points xs ys) 0 n)) ≡ false → (some_beyond (part xs 0 n) ≡ false) × (some_beyond (part ys 0 n) ≡ false)
+within-columns xs ys n e f = let none = sym (first-numbers xs ys n e) ∙ f in (neither_left (some_beyond (part xs 0 n)) _ none, neither_right (some_beyond (part xs 0 n)) _ none)
 
 -- one's run ends where the other's begins or before
 abbrev pub Clear : List ℕ → ℕ → ℕ → Type 0
-Clear runs d e = (firstPlace runs d + size runs d ≤ firstPlace runs e) ⊎ (firstPlace runs e + size runs e ≤ firstPlace runs d)
+Clear runs d e = (first_place runs d + size runs d ≤ first_place runs e) ⊎ (first_place runs e + size runs e ≤ first_place runs d)
 
 -- the facts; `inside` and `apart` speak of numbers in use only
 pub record Sound (outline store : List Point) (runs : List ℕ) : Type 0 where
   pub outline-length : length outline ≡ 2048
   pub store_length : length store ≡ 2048
   pub runs-length : length runs ≡ 129
-  pub outline-size : sized (outlineSize runs) ≡ true
+  pub outline-size : sized (outline_size runs) ≡ true
   pub sizes : (d : ℕ) → d < 64 → sized (size runs d) ≡ true
   pub most : total runs ≤ 2048
-  pub beside : outlineSize runs ≡ 0 → total runs ≡ 0
-  pub inside : (d : ℕ) → d < 64 → 0 < size runs d → firstPlace runs d + size runs d ≤ total runs
+  pub beside : outline_size runs ≡ 0 → total runs ≡ 0
+  pub inside : (d : ℕ) → d < 64 → 0 < size runs d → first_place runs d + size runs d ≤ total runs
   pub apart : (d e : ℕ) → d < 64 → e < 64 → (d ≡ e → ⊥) → 0 < size runs d → 0 < size runs e → Clear runs d e
-  pub outline-grid : someBeyond (numbersOf (part outline 0 (outlineSize runs))) ≡ false
-  pub store-grid : someBeyond (numbersOf (part store 0 (total runs))) ≡ false
+  pub outline-grid : some_beyond (numbers_of (part outline 0 (outline_size runs))) ≡ false
+  pub store-grid : some_beyond (numbers_of (part store 0 (total runs))) ≡ false
 
 -- ---- what a well-formed register tells
 
@@ -72,16 +72,16 @@ module _ (l : Lists) (good : Lent.formed l ≡ true) where
 
   -- as the test says it, of a number and a lower one
   clear : (d e : ℕ) → d < 64 → e < d → WellFormed.apart runs d e ≡ true
-  clear d e h k = all-each (λ e. WellFormed.apart runs d e) d (all-each (λ d. allTo d (λ e. WellFormed.apart runs d e)) 64 (both_right (allTo 64 (WellFormed.inside runs (total runs))) _ (right-packing l good)) d h) e k
+  clear d e h k = all-each (λ e. WellFormed.apart runs d e) d (all-each (λ d. all_to d (λ e. WellFormed.apart runs d e)) 64 (both_right (all_to 64 (WellFormed.inside runs (total runs))) _ (right-packing l good)) d h) e k
 
   clear-of-lower : (d e : ℕ) → d < 64 → e < d → 0 < size runs d → 0 < size runs e → Clear runs d e
-  clear-of-lower d e h k some other = say (either (leb (firstPlace runs d + size runs d) (firstPlace runs e)) _ ((λ i. sym none i || (before || after)) ∙ clear d e h k))
+  clear-of-lower d e h k some other = say (either (leb (first_place runs d + size runs d) (first_place runs e)) _ ((λ i. sym none i || (before || after)) ∙ clear d e h k))
     where
       before : Bool
-      before = leb (firstPlace runs d + size runs d) (firstPlace runs e)
+      before = leb (first_place runs d + size runs d) (first_place runs e)
 
       after : Bool
-      after = leb (firstPlace runs e + size runs e) (firstPlace runs d)
+      after = leb (first_place runs e + size runs e) (first_place runs d)
 
       none : (eqb (size runs d) 0 || eqb (size runs e) 0) ≡ false
       none = λ i. ne_eqb (size runs d) 0 (λ (f : size runs d ≡ 0). omega arith) i || ne_eqb (size runs e) 0 (λ (f : size runs e ≡ 0). omega arith) i
@@ -100,7 +100,7 @@ module _ (l : Lists) (good : Lent.formed l ≡ true) where
       swap (inl f) = inr f
       swap (inr f) = inl f
 
-  pub sound : Sound (outlineOf l) (store_of l) runs
+  pub sound : Sound (outline_of l) (store_of l) runs
   sound =
       let counts = right-counts l good in
       let own = outline-lengths l good in
@@ -115,7 +115,7 @@ module _ (l : Lists) (good : Lent.formed l ≡ true) where
         beside = none-without runs counts;
         inside = run_inside l good;
         apart = clear_of;
-        outline-grid = columns-within l.ox l.oy (outlineSize runs) (own.0 ∙ sym own.1) (outline-on-grid l good);
+        outline-grid = columns-within l.ox l.oy (outline_size runs) (own.0 ∙ sym own.1) (outline-on-grid l good);
         store-grid = columns-within l.sx l.sy (total runs) (all.0 ∙ sym all.1) (store-on-grid l good);
       }
 
@@ -129,15 +129,15 @@ pub record Long (l : Lists) : Type 0 where
   pub outline : (length l.ox ≡ 2048) × (length l.oy ≡ 2048)
   pub store : (length l.sx ≡ 2048) × (length l.sy ≡ 2048)
 
-module _ (l : Lists) (long : Long l) (s : Sound (outlineOf l) (store_of l) l.runs) where
+module _ (l : Lists) (long : Long l) (s : Sound (outline_of l) (store_of l) l.runs) where
   abbrev its : List ℕ
   its = l.runs
 
   -- an outline, or no district
-  backed : (leb 1 (outlineSize its) || eqb (total its) 0) ≡ true
-  backed = elim (ℕ_discrete (outlineSize its) 0) [
-    | yes none ↦ passes-right (leb 1 (outlineSize its)) (eq-eqb (total its) 0 (s.beside none))
-    | no some ↦ passes-left (le-leb 1 (outlineSize its) (omega arith)) (eqb (total its) 0)
+  backed : (leb 1 (outline_size its) || eqb (total its) 0) ≡ true
+  backed = elim (ℕ_discrete (outline_size its) 0) [
+    | yes none ↦ passes-right (leb 1 (outline_size its)) (eq-eqb (total its) 0 (s.beside none))
+    | no some ↦ passes-left (le-leb 1 (outline_size its) (omega arith)) (eqb (total its) 0)
   ]
 
   counts : counted its ≡ true
@@ -161,14 +161,14 @@ module _ (l : Lists) (long : Long l) (s : Sound (outlineOf l) (store_of l) l.run
     ]
   ]
     where
-      say : Clear its d e → (leb (firstPlace its d + size its d) (firstPlace its e) || leb (firstPlace its e + size its e) (firstPlace its d)) ≡ true
+      say : Clear its d e → (leb (first_place its d + size its d) (first_place its e) || leb (first_place its e + size its e) (first_place its d)) ≡ true
       say (inl f) = passes-left (le-leb _ _ f) _
-      say (inr f) = passes-right (leb (firstPlace its d + size its d) (firstPlace its e)) (le-leb _ _ f)
+      say (inr f) = passes-right (leb (first_place its d + size its d) (first_place its e)) (le-leb _ _ f)
 
   packing : packed its ≡ true
   packing =
       let in-it = all_pass (WellFormed.inside its (total its)) 64 within in
-      let free = all_pass (λ d. allTo d (λ e. WellFormed.apart its d e)) 64 (λ d h. all_pass (λ e. WellFormed.apart its d e) d (alone d h)) in
+      let free = all_pass (λ d. all_to d (λ e. WellFormed.apart its d e)) 64 (λ d h. all_pass (λ e. WellFormed.apart its d e) d (alone d h)) in
       λ i. in-it i && free i
 
   shape : WellFormed.shaped l.ox l.oy l.sx l.sy its ≡ true
@@ -176,12 +176,12 @@ module _ (l : Lists) (long : Long l) (s : Sound (outlineOf l) (store_of l) l.run
       let two : (xs ys : List ℤ) → (length xs ≡ 2048) × (length ys ≡ 2048) → (eqb (length xs) 2048 && eqb (length ys) 2048) ≡ true = λ xs ys e i. eq-eqb (length xs) 2048 e.0 i && eq-eqb (length ys) 2048 e.1 i in
       λ i. two l.ox l.oy long.outline i && (two l.sx l.sy long.store i && eq-eqb (length its) 129 s.runs-length i)
 
-  on-grid : WellFormed.onGrid l.ox l.oy l.sx l.sy its ≡ true
+  on-grid : WellFormed.on_grid l.ox l.oy l.sx l.sy its ≡ true
   on-grid =
-      let own = within-columns l.ox l.oy (outlineSize its) (long.outline.0 ∙ sym long.outline.1) s.outline-grid in
+      let own = within-columns l.ox l.oy (outline_size its) (long.outline.0 ∙ sym long.outline.1) s.outline-grid in
       let all = within-columns l.sx l.sy (total its) (long.store.0 ∙ sym long.store.1) s.store-grid in
       λ i. (not (own.0 i) && not (own.1 i)) && (not (all.0 i) && not (all.1 i))
 
   pub formed : Lent.formed l ≡ true
-  unfolding wellFormed
+  unfolding well_formed
   formed = λ i. shape i && (counts i && (packing i && on-grid i))

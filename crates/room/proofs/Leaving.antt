@@ -11,13 +11,13 @@ use mathlib.Core.Logic.{◌⊎◌, inl, inr}
 use lib.ListN.{set}
 use borrow.Author.Tests.{le-leb, lt-leb}
 use Rattle.ring.specs.declared.Point.{Point}
-use Rattle.ring.specs.Grid.{someBeyond}
+use Rattle.ring.specs.Grid.{some_beyond}
 use Rattle.ring.proofs.Pick.{pick_true, pick-false}
 use Rattle.districts.specs.Register.{unused}
-use Rattle.districts.specs.Lists.{outlineSize, firstPlace, size, part, meaning}
+use Rattle.districts.specs.Lists.{outline_size, first_place, size, part, meaning}
 use Rattle.districts.specs.WellFormed.{sized, total}
 use Rattle.districts.proofs.Meaning.{part-within, unused-when}
-use Rattle.room.specs.Writing.{numbersOf, Left}
+use Rattle.room.specs.Writing.{numbers_of, Left}
 use Rattle.room.proofs.Forms.{Clear, Sound}
 use Rattle.room.proofs.Parts.{part-add, part-carried, points-on-grid, both-on-grid, held_same, sum-but-one, meaning-but-one}
 
@@ -28,7 +28,7 @@ left-total store runs d store' runs' below l =
 
 module _ (outline store : List Point) (runs : List ℕ) (d : ℕ) (store' : List Point) (runs' : List ℕ)
     (s : Sound outline store runs) (below : d < 64) (used : 0 < size runs d) (l : Left store runs d store' runs') where
-  fits : firstPlace runs d + size runs d ≤ total runs
+  fits : first_place runs d + size runs d ≤ total runs
   fits = s.inside d below used
 
   total_of : total runs' + size runs d ≡ total runs
@@ -43,19 +43,19 @@ module _ (outline store : List Point) (runs : List ℕ) (d : ℕ) (store' : List
 
   -- a run before d's stays, one after it moves down by d's size
   Stays : ℕ → Type 0
-  Stays e = (firstPlace runs e + size runs e ≤ firstPlace runs d) × (firstPlace runs' e ≡ firstPlace runs e)
+  Stays e = (first_place runs e + size runs e ≤ first_place runs d) × (first_place runs' e ≡ first_place runs e)
 
   Moves : ℕ → Type 0
-  Moves e = (firstPlace runs d + size runs d ≤ firstPlace runs e) × (firstPlace runs' e + size runs d ≡ firstPlace runs e)
+  Moves e = (first_place runs d + size runs d ≤ first_place runs e) × (first_place runs' e + size runs d ≡ first_place runs e)
 
   goes : (e : ℕ) → e < 64 → (e ≡ d → ⊥) → 0 < size runs e → Stays e ⊎ Moves e
   unfolding Stays Moves
   goes e h other some = say (s.apart e d h below other some used)
     where
       say : Clear runs e d → Stays e ⊎ Moves e
-      say (inl before) = inl (before, l.places e h other ∙ pick-false (lt-leb (firstPlace runs d + size runs d) (firstPlace runs e) (omega arith)) _ _)
+      say (inl before) = inl (before, l.places e h other ∙ pick-false (lt-leb (first_place runs d + size runs d) (first_place runs e) (omega arith)) _ _)
       say (inr after) =
-          let place = l.places e h other ∙ pick_true (le-leb (firstPlace runs d + size runs d) (firstPlace runs e) after) _ _ in
+          let place = l.places e h other ∙ pick_true (le-leb (first_place runs d + size runs d) (first_place runs e) after) _ _ in
           inr (after, omega (arith, place))
 
   -- ---- the facts
@@ -66,11 +66,11 @@ module _ (outline store : List Point) (runs : List ℕ) (d : ℕ) (store' : List
     | no other ↦ ap sized (l.sizes e h other) ∙ s.sizes e h
   ]
 
-  within : (e : ℕ) → e < 64 → 0 < size runs' e → firstPlace runs' e + size runs' e ≤ total runs'
+  within : (e : ℕ) → e < 64 → 0 < size runs' e → first_place runs' e + size runs' e ≤ total runs'
   unfolding Stays Moves
   within e h some = say (goes e h (still e h some).0 (still e h some).1)
     where
-      say : Stays e ⊎ Moves e → firstPlace runs' e + size runs' e ≤ total runs'
+      say : Stays e ⊎ Moves e → first_place runs' e + size runs' e ≤ total runs'
       say (inl stays) = omega (arith, stays.0, stays.1, l.sizes e h (still e h some).0, fits, total_of)
       say (inr moves) = omega (arith, moves.1, s.inside e h (still e h some).1, l.sizes e h (still e h some).0, total_of)
 
@@ -93,22 +93,22 @@ module _ (outline store : List Point) (runs : List ℕ) (d : ℕ) (store' : List
       say (inr x) (inr y) (inl f) = inl (omega (arith, x.1, y.1, its, other))
       say (inr x) (inr y) (inr f) = inr (omega (arith, x.1, y.1, its, other))
 
-  all-on-grid : someBeyond (numbersOf (part store' 0 (total runs'))) ≡ false
+  all-on-grid : some_beyond (numbers_of (part store' 0 (total runs'))) ≡ false
   all-on-grid =
-      ap (λ n. someBeyond (numbersOf (part store' 0 n))) count
-      ∙ ap (λ P. someBeyond (numbersOf P)) (part-add store' 0 (firstPlace runs d) after ∙ (λ i. l.lower i ++ behind i))
-      ∙ both-on-grid (part store 0 (firstPlace runs d)) (part store (firstPlace runs d + size runs d) after)
-      (points-on-grid store 0 (firstPlace runs d) (total runs) (omega (arith, fits)) s.store-grid)
-      (points-on-grid store (firstPlace runs d + size runs d) after (total runs) (omega (arith, fits)) s.store-grid)
+      ap (λ n. some_beyond (numbers_of (part store' 0 n))) count
+      ∙ ap (λ P. some_beyond (numbers_of P)) (part-add store' 0 (first_place runs d) after ∙ (λ i. l.lower i ++ behind i))
+      ∙ both-on-grid (part store 0 (first_place runs d)) (part store (first_place runs d + size runs d) after)
+      (points-on-grid store 0 (first_place runs d) (total runs) (omega (arith, fits)) s.store-grid)
+      (points-on-grid store (first_place runs d + size runs d) after (total runs) (omega (arith, fits)) s.store-grid)
     where
       after : ℕ
-      after = total runs - (firstPlace runs d + size runs d)
+      after = total runs - (first_place runs d + size runs d)
 
-      count : total runs' ≡ firstPlace runs d + after
+      count : total runs' ≡ first_place runs d + after
       count = omega (arith, total_of, fits)
 
-      behind : part store' (0 + firstPlace runs d) after ≡ part store (firstPlace runs d + size runs d) after
-      behind = ap (λ p. part store' p after) (zero-add (firstPlace runs d)) ∙ l.moved
+      behind : part store' (0 + first_place runs d) after ≡ part store (first_place runs d + size runs d) after
+      behind = ap (λ p. part store' p after) (zero-add (first_place runs d)) ∙ l.moved
 
   pub left-sound : Sound outline store' runs'
   left-sound = record {
@@ -118,33 +118,33 @@ module _ (outline store : List Point) (runs : List ℕ) (d : ℕ) (store' : List
     outline-size = ap sized l.outline-same ∙ s.outline-size;
     sizes = each-size;
     most = omega (arith, total_of, s.most);
-    beside = λ (f : outlineSize runs' ≡ 0). let none = s.beside (sym l.outline-same ∙ f) in omega (arith, none, total_of);
+    beside = λ (f : outline_size runs' ≡ 0). let none = s.beside (sym l.outline-same ∙ f) in omega (arith, none, total_of);
     inside = within;
     apart = clear;
-    outline-grid = ap (λ n. someBeyond (numbersOf (part outline 0 n))) l.outline-same ∙ s.outline-grid;
+    outline-grid = ap (λ n. some_beyond (numbers_of (part outline 0 n))) l.outline-same ∙ s.outline-grid;
     store-grid = all-on-grid;
   }
 
   -- ---- the meaning
 
   -- a run that stays lies in the lower piece, one that moves in the moved piece
-  same-part : (e : ℕ) → e < 64 → (e ≡ d → ⊥) → 0 < size runs e → part store' (firstPlace runs' e) (size runs e) ≡ part store (firstPlace runs e) (size runs e)
+  same-part : (e : ℕ) → e < 64 → (e ≡ d → ⊥) → 0 < size runs e → part store' (first_place runs' e) (size runs e) ≡ part store (first_place runs e) (size runs e)
   unfolding Stays Moves
   same-part e h other some = say (goes e h other some)
     where
-      say : Stays e ⊎ Moves e → part store' (firstPlace runs' e) (size runs e) ≡ part store (firstPlace runs e) (size runs e)
+      say : Stays e ⊎ Moves e → part store' (first_place runs' e) (size runs e) ≡ part store (first_place runs e) (size runs e)
       say (inl stays) =
           ap (λ p. part store' p (size runs e)) stays.1
-          ∙ sym (part-within store' (firstPlace runs e) (size runs e) (firstPlace runs d) stays.0)
-          ∙ ap (λ xs. part xs (firstPlace runs e) (size runs e)) l.lower
-          ∙ part-within store (firstPlace runs e) (size runs e) (firstPlace runs d) stays.0
+          ∙ sym (part-within store' (first_place runs e) (size runs e) (first_place runs d) stays.0)
+          ∙ ap (λ xs. part xs (first_place runs e) (size runs e)) l.lower
+          ∙ part-within store (first_place runs e) (size runs e) (first_place runs d) stays.0
       say (inr moves) =
-          let by : ℕ = firstPlace runs' e - firstPlace runs d in
-          let new : firstPlace runs' e ≡ firstPlace runs d + by = omega (arith, moves.0, moves.1) in
-          let old : firstPlace runs d + size runs d + by ≡ firstPlace runs e = omega (arith, moves.0, moves.1) in
+          let by : ℕ = first_place runs' e - first_place runs d in
+          let new : first_place runs' e ≡ first_place runs d + by = omega (arith, moves.0, moves.1) in
+          let old : first_place runs d + size runs d + by ≡ first_place runs e = omega (arith, moves.0, moves.1) in
           let all = s.inside e h some in
           ap (λ p. part store' p (size runs e)) new
-          ∙ part-carried store' store (firstPlace runs d) (firstPlace runs d + size runs d) (total runs - (firstPlace runs d + size runs d)) by (size runs e) l.moved (omega (arith, moves.0, moves.1, all))
+          ∙ part-carried store' store (first_place runs d) (first_place runs d + size runs d) (total runs - (first_place runs d + size runs d)) by (size runs e) l.moved (omega (arith, moves.0, moves.1, all))
           ∙ ap (λ p. part store p (size runs e)) old
 
   -- ---- together
@@ -152,5 +152,5 @@ module _ (outline store : List Point) (runs : List ℕ) (d : ℕ) (store' : List
   pub left-meaning : meaning outline store' runs'
       ≡ record { outline = (meaning outline store runs).outline; districts = set (meaning outline store runs).districts d unused }
   left-meaning = meaning-but-one outline store store' runs runs' d unused l.outline-same
-      (λ h. unused-when store' (firstPlace runs' d) (size runs' d) l.gone)
-      (λ e h other. held_same store' store (firstPlace runs' e) (firstPlace runs e) (size runs' e) (size runs e) (l.sizes e h other) (same-part e h other))
+      (λ h. unused-when store' (first_place runs' d) (size runs' d) l.gone)
+      (λ e h other. held_same store' store (first_place runs' e) (first_place runs e) (size runs' e) (size runs e) (l.sizes e h other) (same-part e h other))

@@ -9,12 +9,12 @@ use lib.IntN.{ℤ}
 use lib.ListN.{take, drop, set, take-append-drop}
 use lib.Seq.{drop-drop, take-add}
 use Rattle.ring.specs.declared.Point.{Point}
-use Rattle.ring.specs.Grid.{beyond, someBeyond}
+use Rattle.ring.specs.Grid.{beyond, some_beyond}
 use Rattle.ring.proofs.Pick.{neither_left, neither_right}
-use Rattle.districts.specs.Counts.{sum_to, listTo}
+use Rattle.districts.specs.Counts.{sum_to, list_to}
 use Rattle.districts.specs.Register.{Slot, ring}
-use Rattle.districts.specs.Lists.{outlineSize, part, held, district, meaning}
-use Rattle.room.specs.Writing.{numbersOf}
+use Rattle.districts.specs.Lists.{outline_size, part, held, district, meaning}
+use Rattle.room.specs.Writing.{numbers_of}
 use Rattle.districts.proofs.Meaning.{part-within, unused-when, ring-when, list_same}
 
 -- ---- parts
@@ -32,34 +32,34 @@ part-carried l m p q t a n e h = sym (part-of-part l p t a n h) ∙ ap (λ k. pa
 
 -- ---- on the grid
 
-pub numbers-append : (P Q : List Point) → numbersOf (P ++ Q) ≡ numbersOf P ++ numbersOf Q
-unfolding numbersOf
+pub numbers-append : (P Q : List Point) → numbers_of (P ++ Q) ≡ numbers_of P ++ numbers_of Q
+unfolding numbers_of
 numbers-append [] Q = refl
 numbers-append (p ∷ P) Q = ap (λ xs. p.x ∷ p.y ∷ xs) (numbers-append P Q)
 
-append-on-grid : (xs ys : List ℤ) → someBeyond xs ≡ false → someBeyond ys ≡ false → someBeyond (xs ++ ys) ≡ false
+append-on-grid : (xs ys : List ℤ) → some_beyond xs ≡ false → some_beyond ys ≡ false → some_beyond (xs ++ ys) ≡ false
 append-on-grid [] ys e f = f
-append-on-grid (x ∷ xs) ys e f = λ i. neither_left (beyond x) (someBeyond xs) e i || append-on-grid xs ys (neither_right (beyond x) (someBeyond xs) e) f i
+append-on-grid (x ∷ xs) ys e f = λ i. neither_left (beyond x) (some_beyond xs) e i || append-on-grid xs ys (neither_right (beyond x) (some_beyond xs) e) f i
 
-pub both-on-grid : (P Q : List Point) → someBeyond (numbersOf P) ≡ false → someBeyond (numbersOf Q) ≡ false → someBeyond (numbersOf (P ++ Q)) ≡ false
-both-on-grid P Q e f = ap someBeyond (numbers-append P Q) ∙ append-on-grid (numbersOf P) (numbersOf Q) e f
+pub both-on-grid : (P Q : List Point) → some_beyond (numbers_of P) ≡ false → some_beyond (numbers_of Q) ≡ false → some_beyond (numbers_of (P ++ Q)) ≡ false
+both-on-grid P Q e f = ap some_beyond (numbers-append P Q) ∙ append-on-grid (numbers_of P) (numbers_of Q) e f
 
-front-on-grid : (xs ys : List ℤ) → someBeyond (xs ++ ys) ≡ false → someBeyond xs ≡ false
+front-on-grid : (xs ys : List ℤ) → some_beyond (xs ++ ys) ≡ false → some_beyond xs ≡ false
 front-on-grid [] ys e = refl
-front-on-grid (x ∷ xs) ys e = λ i. neither_left (beyond x) (someBeyond (xs ++ ys)) e i || front-on-grid xs ys (neither_right (beyond x) (someBeyond (xs ++ ys)) e) i
+front-on-grid (x ∷ xs) ys e = λ i. neither_left (beyond x) (some_beyond (xs ++ ys)) e i || front-on-grid xs ys (neither_right (beyond x) (some_beyond (xs ++ ys)) e) i
 
-back-on-grid : (xs ys : List ℤ) → someBeyond (xs ++ ys) ≡ false → someBeyond ys ≡ false
+back-on-grid : (xs ys : List ℤ) → some_beyond (xs ++ ys) ≡ false → some_beyond ys ≡ false
 back-on-grid [] ys e = e
-back-on-grid (x ∷ xs) ys e = back-on-grid xs ys (neither_right (beyond x) (someBeyond (xs ++ ys)) e)
+back-on-grid (x ∷ xs) ys e = back-on-grid xs ys (neither_right (beyond x) (some_beyond (xs ++ ys)) e)
 
 -- where the first t points are on the grid, so are those of a part of them
-pub points-on-grid : (P : List Point) (f n t : ℕ) → f + n ≤ t → someBeyond (numbersOf (part P 0 t)) ≡ false → someBeyond (numbersOf (part P f n)) ≡ false
+pub points-on-grid : (P : List Point) (f n t : ℕ) → f + n ≤ t → some_beyond (numbers_of (part P 0 t)) ≡ false → some_beyond (numbers_of (part P f n)) ≡ false
 points-on-grid P f n t h e =
     let Q = part P 0 t in
-    let all : someBeyond (numbersOf (take f Q) ++ numbersOf (drop f Q)) ≡ false = ap someBeyond (sym (numbers-append (take f Q) (drop f Q))) ∙ ap (λ R. someBeyond (numbersOf R)) (take-append-drop f Q) ∙ e in
-    let rest = back-on-grid (numbersOf (take f Q)) (numbersOf (drop f Q)) all in
-    let some : someBeyond (numbersOf (take n (drop f Q)) ++ numbersOf (drop n (drop f Q))) ≡ false = ap someBeyond (sym (numbers-append (take n (drop f Q)) (drop n (drop f Q)))) ∙ ap (λ R. someBeyond (numbersOf R)) (take-append-drop n (drop f Q)) ∙ rest in
-    ap (λ R. someBeyond (numbersOf R)) (sym (part-within P f n t h)) ∙ front-on-grid (numbersOf (take n (drop f Q))) _ some
+    let all : some_beyond (numbers_of (take f Q) ++ numbers_of (drop f Q)) ≡ false = ap some_beyond (sym (numbers-append (take f Q) (drop f Q))) ∙ ap (λ R. some_beyond (numbers_of R)) (take-append-drop f Q) ∙ e in
+    let rest = back-on-grid (numbers_of (take f Q)) (numbers_of (drop f Q)) all in
+    let some : some_beyond (numbers_of (take n (drop f Q)) ++ numbers_of (drop n (drop f Q))) ≡ false = ap some_beyond (sym (numbers-append (take n (drop f Q)) (drop n (drop f Q)))) ∙ ap (λ R. some_beyond (numbers_of R)) (take-append-drop n (drop f Q)) ∙ rest in
+    ap (λ R. some_beyond (numbers_of R)) (sym (part-within P f n t h)) ∙ front-on-grid (numbers_of (take n (drop f Q))) _ some
 
 -- ---- slots
 
@@ -94,15 +94,15 @@ sum-but-one f g (suc n) d h e = elim (ℕ_discrete d n) [
 ]
 
 -- a list that differs from another at d only
-pub list-but-one : {A : Type 0} (f g : ℕ → A) (n d : ℕ) (a : A) → (d < n → f d ≡ a) → ((k : ℕ) → k < n → (k ≡ d → ⊥) → f k ≡ g k) → listTo n f ≡ set (listTo n g) d a
-unfolding listTo
+pub list-but-one : {A : Type 0} (f g : ℕ → A) (n d : ℕ) (a : A) → (d < n → f d ≡ a) → ((k : ℕ) → k < n → (k ≡ d → ⊥) → f k ≡ g k) → list_to n f ≡ set (list_to n g) d a
+unfolding list_to
 list-but-one f g zero d a own e = refl
 list-but-one f g (suc n) zero a own e = λ i. own (omega arith) i ∷ list_same n (λ k. f (suc k)) (λ k. g (suc k)) (λ k h. e (suc k) (omega arith) (λ (c : suc k ≡ 0). omega arith)) i
 list-but-one f g (suc n) (suc d) a own e = λ i. e 0 (omega arith) (λ (c : 0 ≡ suc d). omega arith) i
     ∷ list-but-one (λ k. f (suc k)) (λ k. g (suc k)) n d a (λ h. own (omega arith)) (λ k h other. e (suc k) (omega arith) (λ (c : suc k ≡ suc d). other (omega arith))) i
 
 -- the outline stays, number d gets a slot, and every other number keeps its own
-pub meaning-but-one : (outline store store' : List Point) (runs runs' : List ℕ) (d : ℕ) (a : Slot) → outlineSize runs' ≡ outlineSize runs
+pub meaning-but-one : (outline store store' : List Point) (runs runs' : List ℕ) (d : ℕ) (a : Slot) → outline_size runs' ≡ outline_size runs
     → (d < 64 → district store' runs' d ≡ a) → ((e : ℕ) → e < 64 → (e ≡ d → ⊥) → district store' runs' e ≡ district store runs e)
     → meaning outline store' runs' ≡ record { outline = (meaning outline store runs).outline; districts = set (meaning outline store runs).districts d a }
 unfolding meaning

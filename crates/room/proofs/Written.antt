@@ -20,20 +20,20 @@ use Rattle.ring.proofs.Vertices.{origin, length-vertices}
 use Rattle.districts.specs.WellFormed.{total}
 use Rattle.districts.specs.Lent.{written}
 use Rattle.room.specs.Runs.{run}
-use Rattle.room.specs.Writing.{numbersOf, behind, entered, Added}
+use Rattle.room.specs.Writing.{numbers_of, behind, entered, Added}
 
-pub numbers-length : (P : List Point) → length (numbersOf P) ≡ length P + length P
-unfolding numbersOf
+pub numbers-length : (P : List Point) → length (numbers_of P) ≡ length P + length P
+unfolding numbers_of
 numbers-length [] = refl
 numbers-length (p ∷ P) = let e = numbers-length P in omega arith
 
-pub vertices-numbers : (P : List Point) → vertices (numbersOf P) ≡ P
-unfolding numbersOf vertices
+pub vertices-numbers : (P : List Point) → vertices (numbers_of P) ≡ P
+unfolding numbers_of vertices
 vertices-numbers [] = refl
 vertices-numbers (p ∷ P) = ap (λ Q. p ∷ Q) (vertices-numbers P)
 
-pub numbers-vertices : (xs : List ℤ) (n : ℕ) → length xs ≡ n + n → numbersOf (vertices xs) ≡ xs
-unfolding numbersOf vertices
+pub numbers-vertices : (xs : List ℤ) (n : ℕ) → length xs ≡ n + n → numbers_of (vertices xs) ≡ xs
+unfolding numbers_of vertices
 numbers-vertices [] n e = refl
 numbers-vertices (x ∷ []) n e = absurd (let f : ⊥ = omega arith in f)
 numbers-vertices (x ∷ y ∷ xs) zero e = absurd (let f : ⊥ = omega arith in f)
@@ -179,25 +179,25 @@ one-length P i c path k e = length-append (run P i c) (reverse (vertices path)) 
 -- ---- a ring as x, y, x, y, ..
 
 -- the numbers of the point at k
-number-x : (xs ys : List ℤ) (k : ℕ) → length xs ≡ length ys → k < length xs → get_or (numbersOf (points xs ys)) (k + k) (pos 0) ≡ get_or xs k (pos 0)
-unfolding numbersOf points
+number-x : (xs ys : List ℤ) (k : ℕ) → length xs ≡ length ys → k < length xs → get_or (numbers_of (points xs ys)) (k + k) (pos 0) ≡ get_or xs k (pos 0)
+unfolding numbers_of points
 number-x [] ys k e h = absurd (let f : ⊥ = omega arith in f)
 number-x (x ∷ xs) [] k e h = absurd (let f : ⊥ = omega arith in f)
 number-x (x ∷ xs) (y ∷ ys) zero e h = refl
-number-x (x ∷ xs) (y ∷ ys) (suc k) e h = ap (λ m. get_or (x ∷ y ∷ numbersOf (points xs ys)) m (pos 0)) (let f : suc k + suc k ≡ suc (suc (k + k)) = omega arith in f) ∙ number-x xs ys k (omega arith) (omega arith)
+number-x (x ∷ xs) (y ∷ ys) (suc k) e h = ap (λ m. get_or (x ∷ y ∷ numbers_of (points xs ys)) m (pos 0)) (let f : suc k + suc k ≡ suc (suc (k + k)) = omega arith in f) ∙ number-x xs ys k (omega arith) (omega arith)
 
-number-y : (xs ys : List ℤ) (k : ℕ) → length xs ≡ length ys → k < length xs → get_or (numbersOf (points xs ys)) (k + k + 1) (pos 0) ≡ get_or ys k (pos 0)
-unfolding numbersOf points
+number-y : (xs ys : List ℤ) (k : ℕ) → length xs ≡ length ys → k < length xs → get_or (numbers_of (points xs ys)) (k + k + 1) (pos 0) ≡ get_or ys k (pos 0)
+unfolding numbers_of points
 number-y [] ys k e h = absurd (let f : ⊥ = omega arith in f)
 number-y (x ∷ xs) [] k e h = absurd (let f : ⊥ = omega arith in f)
 number-y (x ∷ xs) (y ∷ ys) zero e h = refl
-number-y (x ∷ xs) (y ∷ ys) (suc k) e h = ap (λ m. get_or (x ∷ y ∷ numbersOf (points xs ys)) m (pos 0)) (let f : suc k + suc k + 1 ≡ suc (suc (k + k + 1)) = omega arith in f) ∙ number-y xs ys k (omega arith) (omega arith)
+number-y (x ∷ xs) (y ∷ ys) (suc k) e h = ap (λ m. get_or (x ∷ y ∷ numbers_of (points xs ys)) m (pos 0)) (let f : suc k + suc k + 1 ≡ suc (suc (k + k + 1)) = omega arith in f) ∙ number-y xs ys k (omega arith) (omega arith)
 
 -- the two numbers of a point are written
-pub pair-more : (xs ys to₀ to : List ℤ) (k : ℕ) → length xs ≡ length ys → k < length xs → length xs + length xs ≤ length to₀ → Writing (numbersOf (points xs ys)) to₀ to (k + k)
-    → Writing (numbersOf (points xs ys)) to₀ (set (set to (2 * k) (get_or xs k (pos 0))) (2 * k + 1) (get_or ys k (pos 0))) (k + 1 + (k + 1))
+pub pair-more : (xs ys to₀ to : List ℤ) (k : ℕ) → length xs ≡ length ys → k < length xs → length xs + length xs ≤ length to₀ → Writing (numbers_of (points xs ys)) to₀ to (k + k)
+    → Writing (numbers_of (points xs ys)) to₀ (set (set to (2 * k) (get_or xs k (pos 0))) (2 * k + 1) (get_or ys k (pos 0))) (k + 1 + (k + 1))
 pair-more xs ys to₀ to k e h room w =
-    let L = numbersOf (points xs ys) in
+    let L = numbers_of (points xs ys) in
     let all : length L ≡ length xs + length xs = numbers-length (points xs ys) ∙ (λ i. length-points xs ys e i + length-points xs ys e i) in
     let twice : k + k ≡ 2 * k = omega arith in
     let next : k + k + 1 + 1 ≡ k + 1 + (k + 1) = omega arith in
@@ -206,7 +206,7 @@ pair-more xs ys to₀ to k e h room w =
     transport (λ i. Writing L to₀ (set (set to (twice i) (get_or xs k (pos 0))) (twice i + 1) (get_or ys k (pos 0))) (next i)) second
 
 -- a ring that was written is read back
-pub read_back : (P : List Point) (n : ℕ) → length P ≡ n → (to₀ to : List ℤ) → to ≡ written (numbersOf P) to₀ → (m : ℕ) → m ≡ n + n → vertices (take (m - 0) to) ≡ P
+pub read_back : (P : List Point) (n : ℕ) → length P ≡ n → (to₀ to : List ℤ) → to ≡ written (numbers_of P) to₀ → (m : ℕ) → m ≡ n + n → vertices (take (m - 0) to) ≡ P
 read_back P n e to₀ to f m k =
-    let all : length (numbersOf P) ≡ m - 0 = numbers-length P ∙ omega arith in
-    ap (λ l. vertices (take (m - 0) l)) f ∙ ap vertices (take_at (numbersOf P) (drop (length (numbersOf P)) to₀) (m - 0) all) ∙ vertices-numbers P
+    let all : length (numbers_of P) ≡ m - 0 = numbers-length P ∙ omega arith in
+    ap (λ l. vertices (take (m - 0) l)) f ∙ ap vertices (take_at (numbers_of P) (drop (length (numbers_of P)) to₀) (m - 0) all) ∙ vertices-numbers P

@@ -2,13 +2,13 @@
 use Rattle.std.specs.Prelude.{ℕ, ◌+◌, ◌-◌, ◌≤◌, ◌<◌, ◌≡◌, List, [], ◌∷◌, ◌++◌, leb, ℤ, length, get_or, take, drop, set}
 use Rattle.ring.specs.declared.Point.{Point}
 use Rattle.ring.specs.Choices.{pick}
-use Rattle.districts.specs.Lists.{outlineSize, firstPlace, size, part}
+use Rattle.districts.specs.Lists.{outline_size, first_place, size, part}
 use Rattle.districts.specs.WellFormed.{total}
 
 -- x0, y0, x1, y1, .. of points
-unfoldable pub numbersOf : List Point → List ℤ
-numbersOf [] = []
-numbersOf (p ∷ P) = p.x ∷ p.y ∷ numbersOf P
+unfoldable pub numbers_of : List Point → List ℤ
+numbers_of [] = []
+numbers_of (p ∷ P) = p.x ∷ p.y ∷ numbers_of P
 
 -- what stands from `from` on, up to `end`, moved down to `to`; what comes after it is as it was
 abbrev pub closed : {A : Type 0} → List A → ℕ → ℕ → ℕ → List A
@@ -17,7 +17,7 @@ closed xs to from end = take to xs ++ take (end - from) (drop from xs) ++ drop (
 -- the first places from `end` on are n lower; nothing else is changed
 pub record Lowered (runs : List ℕ) (end n : ℕ) (runs' : List ℕ) : Type 0 where
   pub long : length runs' ≡ length runs
-  pub places : (e : ℕ) → e < 64 → firstPlace runs' e ≡ pick (leb end (firstPlace runs e)) (firstPlace runs e - n) (firstPlace runs e)
+  pub places : (e : ℕ) → e < 64 → first_place runs' e ≡ pick (leb end (first_place runs e)) (first_place runs e - n) (first_place runs e)
   pub outline : get_or runs' 0 0 ≡ get_or runs 0 0
   pub sizes : (k : ℕ) → 65 ≤ k → get_or runs' k 0 ≡ get_or runs k 0
 
@@ -30,12 +30,12 @@ entered runs e place m = set (set runs (1 + e) place) (65 + e) m
 pub record Left (store : List Point) (runs : List ℕ) (d : ℕ) (store' : List Point) (runs' : List ℕ) : Type 0 where
   pub long-store : length store' ≡ 2048
   pub long-runs : length runs' ≡ 129
-  pub outline-same : outlineSize runs' ≡ outlineSize runs
+  pub outline-same : outline_size runs' ≡ outline_size runs
   pub gone : size runs' d ≡ 0
   pub sizes : (e : ℕ) → e < 64 → (e ≡ d → ⊥) → size runs' e ≡ size runs e
-  pub places : (e : ℕ) → e < 64 → (e ≡ d → ⊥) → firstPlace runs' e ≡ pick (leb (firstPlace runs d + size runs d) (firstPlace runs e)) (firstPlace runs e - size runs d) (firstPlace runs e)
-  pub lower : part store' 0 (firstPlace runs d) ≡ part store 0 (firstPlace runs d)
-  pub moved : part store' (firstPlace runs d) (total runs - (firstPlace runs d + size runs d)) ≡ part store (firstPlace runs d + size runs d) (total runs - (firstPlace runs d + size runs d))
+  pub places : (e : ℕ) → e < 64 → (e ≡ d → ⊥) → first_place runs' e ≡ pick (leb (first_place runs d + size runs d) (first_place runs e)) (first_place runs e - size runs d) (first_place runs e)
+  pub lower : part store' 0 (first_place runs d) ≡ part store 0 (first_place runs d)
+  pub moved : part store' (first_place runs d) (total runs - (first_place runs d + size runs d)) ≡ part store (first_place runs d + size runs d) (total runs - (first_place runs d + size runs d))
 
 -- ys stand behind the first a; what comes after them is as it was
 abbrev pub behind : {A : Type 0} → List A → ℕ → List A → List A

@@ -3,9 +3,9 @@ ghost use Rattle.std.specs.Prelude.{◌≡◌, ◌++◌, reverse, ◌+◌, ◌%�
 ghost use Rattle.ring.specs.Grid.{vertices};
 ghost use Rattle.ring.specs.Columns.{points};
 ghost use Rattle.districts.specs.Lent.{written};
-ghost use Rattle.districts.specs.Lists.{firstPlace, size as size_of, part};
+ghost use Rattle.districts.specs.Lists.{first_place, size as size_of, part};
 ghost use Rattle.room.specs.Runs.{run};
-ghost use Rattle.room.specs.Writing.{numbersOf};
+ghost use Rattle.room.specs.Writing.{numbers_of};
 
 use ring::Point;
 
@@ -111,7 +111,7 @@ pub fn write_two_runs(
 fn interleave(to: &mut [i32], xs: &[i32], ys: &[i32])
     requires xs_len { length xs.now ≡ length ys.now }
     requires xs_in_bounds { length xs.now + length xs.now ≤ length to.old }
-    ensures { to.new ≡ written (numbersOf (points xs.now ys.now)) to.old }
+    ensures { to.new ≡ written (numbers_of (points xs.now ys.now)) to.old }
 {
     let mut k = 0;
     while k < xs.len() {
@@ -124,8 +124,8 @@ fn interleave(to: &mut [i32], xs: &[i32], ys: &[i32])
 // Writes the ring of number d as x, y, x, y, .. to the first places of a list, and answers how many numbers that are.
 pub fn copy_ring(to: &mut [i32], sx: &[i32], sy: &[i32], runs: &[u32], d: usize) -> usize
     requires to_len { (length to.old ≡ 4096) × (length sx.now ≡ 2048) × (length sy.now ≡ 2048) × (length runs.now ≡ 129) × (d < 64) }
-    requires d_bound { firstPlace runs.now d + size_of runs.now d ≤ 2048 }
-    ensures { (result ≡ size_of runs.now d + size_of runs.now d) × (to.new ≡ written (numbersOf (part (points sx.now sy.now) (firstPlace runs.now d) (size_of runs.now d))) to.old) }
+    requires d_bound { first_place runs.now d + size_of runs.now d ≤ 2048 }
+    ensures { (result ≡ size_of runs.now d + size_of runs.now d) × (to.new ≡ written (numbers_of (part (points sx.now sy.now) (first_place runs.now d) (size_of runs.now d))) to.old) }
 {
     let n = districts::size(runs, d);
     let from = districts::first_place(runs, d);

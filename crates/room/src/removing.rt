@@ -3,7 +3,7 @@ ghost use Rattle.std.specs.Prelude.{◌≡◌, ◌+◌, ◌-◌, ◌<◌, ◌≤
 ghost use Rattle.ring.specs.Choices.{pick};
 ghost use Rattle.ring.specs.Columns.{points};
 ghost use Rattle.room.specs.Writing.{closed, Lowered, Left};
-ghost use Rattle.districts.specs.Lists.{firstPlace, size as size_of};
+ghost use Rattle.districts.specs.Lists.{first_place, size as size_of};
 ghost use Rattle.districts.specs.WellFormed.{total as total_of};
 
 use districts::{FIRST_PLACES, SIZES};
@@ -51,7 +51,7 @@ pub fn remove(sx: &mut [i32], sy: &mut [i32], runs: &mut [u32], d: usize)
     requires sx_len { (length sx.old ≡ 2048) × (length sy.old ≡ 2048) }
     requires runs_len { length runs.old ≡ 129 }
     requires d_bound { d < 64 }
-    requires d_bound_2 { (firstPlace runs.old d + size_of runs.old d ≤ total_of runs.old) × (total_of runs.old ≤ 2048) }
+    requires d_bound_2 { (first_place runs.old d + size_of runs.old d ≤ total_of runs.old) × (total_of runs.old ≤ 2048) }
     ensures { Left (points sx.old sy.old) runs.old d (points sx.new sy.new) runs.new }
 {
     let at = districts::first_place(runs, d);

@@ -10,14 +10,14 @@ use lib.ListN.{length, drop, length-drop, length-append}
 use Rattle.districts.specs.Lent.{Lists, formed, means}
 use Rattle.history.specs.Histories.{Call, merging}
 use Rattle.records.specs.Layout.{Front, whole, more, broken, front}
-use Rattle.records.specs.Decoding.{takenFor}
+use Rattle.records.specs.Decoding.{taken_for}
 use Rattle.wording.specs.Text.{laid}
 use Rattle.wording.specs.Lines.{room}
 use Rattle.stream.specs.declared.Stop.{Stop}
 use Rattle.stream.specs.declared.Stop.TheVariants.{Full, More, Broken}
 use Rattle.stream.specs.declared.Page.{Page}
 use Rattle.stream.specs.Streams.{Starts}
-use Rattle.stream.specs.Desks.{Desk, deskOf, next, through, line_of, lines_from}
+use Rattle.stream.specs.Desks.{Desk, desk_of, next, through, line_of, lines_from}
 use Rattle.stream.specs.Printing.{Stopped, Roomy, noted, Printed}
 
 -- ---- what stands at the front
@@ -58,13 +58,13 @@ pub record Stood (bytes : List ℕ) (places n : ℕ) (k : Desk) (cs : List Call)
   pub why : Stopped s (places - length (lines_from n k cs)) rest
 
 -- the same behind the first call
-behind : (bytes : List ℕ) (places n : ℕ) (k : Desk) (c : Call) (cs : List Call) (rest : List ℕ) (s : Stop) (t : Stood bytes places n k (c ∷ cs) rest s) (m : ℕ) → takenFor (front bytes) ≡ m → (d : Call) → c ≡ d
+behind : (bytes : List ℕ) (places n : ℕ) (k : Desk) (c : Call) (cs : List Call) (rest : List ℕ) (s : Stop) (t : Stood bytes places n k (c ∷ cs) rest s) (m : ℕ) → taken_for (front bytes) ≡ m → (d : Call) → c ≡ d
     → Stood (drop m bytes) (places - length (line_of n k d)) (n + 1) (next k d) cs rest s
 unfolding Starts Roomy lines_from
 behind bytes places n k c cs rest s t m size d same =
     subst (λ x. Stood (drop m bytes) (places - length (line_of n k x)) (n + 1) (next k x) cs rest s) same
     (record {
-      starts = subst (λ j. Starts (drop j bytes) cs rest) (sym (ap takenFor t.starts.1) ∙ size) t.starts.2;
+      starts = subst (λ j. Starts (drop j bytes) cs rest) (sym (ap taken_for t.starts.1) ∙ size) t.starts.2;
       roomy = t.roomy.1;
       why = subst (λ j. Stopped s j rest) fewer t.why;
     })
@@ -83,7 +83,7 @@ one-start bytes places n k [] [] rest rest' s s' t u = (refl, sym t.starts ∙ u
 one-start bytes places n k [] (d ∷ ds) rest rest' s s' t u = absurd (undone bytes places n k d ds rest rest' s s' t u)
 one-start bytes places n k (c ∷ cs) [] rest rest' s s' t u = absurd (undone bytes places n k c cs rest' rest s' s u t)
 one-start bytes places n k (c ∷ cs) (d ∷ ds) rest rest' s s' t u =
-    let m = takenFor (front bytes) in
+    let m = taken_for (front bytes) in
     let same : c ≡ d = sym (ap call_in t.starts.1) ∙ ap call_in u.starts.1 in
     let again = one-start (drop m bytes) (places - length (line_of n k d)) (n + 1) (next k d) cs ds rest rest' s s' (behind bytes places n k c cs rest s t m refl d same) (behind bytes places n k d ds rest' s' u m refl d refl) in
     ((λ i. same i ∷ again.0 i), again.1)
@@ -111,7 +111,7 @@ module _ (bytes : List ℕ) (k : Desk) (n : ℕ) (list : List ℤ) (to : List �
       let both = one-start bytes (length to) n k s.done t.done _ _ p.stop q.stop (stood p l list₁ to₁ s s-off) (stood q m list₂ to₂ t t-off) in
       let done : s.done ≡ t.done = both.0 in
       let places : p.filled ≡ q.filled = s.text.behind ∙ ap (λ cs. 0 + length (lines_from n k cs)) done ∙ sym t.text.behind in
-      let desks : deskOf l p.tally ≡ deskOf m q.tally = s.desk ∙ ap (through k) done ∙ sym t.desk in
+      let desks : desk_of l p.tally ≡ desk_of m q.tally = s.desk ∙ ap (through k) done ∙ sym t.desk in
       let p-stop = subst (λ f. Stopped p.stop (length to - f) (drop p.at bytes)) places (s.stop s-off) in
       record {
         at = omega (arith, ap length both.1, length-drop p.at bytes, length-drop q.at bytes, s.there, t.there);

@@ -10,7 +10,7 @@ use lib.Seq.{drop-drop}
 use Rattle.districts.specs.Lent.{Lists, formed, written}
 use Rattle.tally.specs.declared.Tally.{Tally}
 use Rattle.history.specs.Histories.{Call}
-use Rattle.records.specs.Decoding.{pairsOf}
+use Rattle.records.specs.Decoding.{pairs_of}
 use Rattle.records.proofs.Sizes.{Size, whole-size}
 use Rattle.wording.specs.Lines.{room}
 use Rattle.wording.proofs.Laying.{joined, laid_as}
@@ -18,7 +18,7 @@ use Rattle.stream.specs.declared.Stop.TheVariants.{More}
 use Rattle.index.specs.declared.Axes.{Axes}
 use Rattle.stream.specs.declared.Page.{Page}
 use Rattle.stream.specs.Streams.{Starts}
-use Rattle.stream.specs.Desks.{Desk, deskOf, next, through, line_of, lines_from}
+use Rattle.stream.specs.Desks.{Desk, desk_of, next, through, line_of, lines_from}
 use Rattle.stream.specs.Printing.{Stopped, Roomy, noted, Printed, numbers, Ready, Wrote, Rests, TurnedBy}
 use Rattle.stream.proofs.Starting.{starts_more, starts-one, starts-few}
 
@@ -51,14 +51,14 @@ roomy-more places n k [] c h left = (omega (arith, left), tt)
 roomy-more places n k (d ∷ cs) c h left =
     (h.0, roomy-more (places - length (line_of n k d)) (n + 1) (next k d) cs c h.1 (omega (arith, left, length-append (line_of n k d) (lines_from (n + 1) (next k d) cs))))
 
-noted_more : (cs : List Call) (c : Call) (list : List ℤ) → noted (cs ++ c ∷ []) list ≡ written (pairsOf c) (noted cs list)
+noted_more : (cs : List Call) (c : Call) (list : List ℤ) → noted (cs ++ c ∷ []) list ≡ written (pairs_of c) (noted cs list)
 unfolding noted
 noted_more [] c list = refl
-noted_more (d ∷ cs) c list = noted_more cs c (written (pairsOf d) list)
+noted_more (d ∷ cs) c list = noted_more cs c (written (pairs_of d) list)
 
 -- ---- before the first turn
 
-pub printed-none : (bytes : List ℕ) (t : Tally) (n : ℕ) (list : List ℤ) (to : List ℕ) (l : Lists) (x : Axes) → formed l ≡ true → Printed bytes (deskOf l t) n list to (record { at = 0; filled = 0; records = n; tally = t; axes = x; going = true; stop = More }) l list to
+pub printed-none : (bytes : List ℕ) (t : Tally) (n : ℕ) (list : List ℤ) (to : List ℕ) (l : Lists) (x : Axes) → formed l ≡ true → Printed bytes (desk_of l t) n list to (record { at = 0; filled = 0; records = n; tally = t; axes = x; going = true; stop = More }) l list to
 unfolding through lines_from Starts Roomy noted
 printed-none bytes t n list to l x good = record {
   done = [];
@@ -104,7 +104,7 @@ module _ (bytes : List ℕ) (k : Desk) (n : ℕ) (list : List ℤ) (to : List �
       form = w.form;
       desk = w.desk ∙ ap (λ d. next d w.call) so_far.desk ∙ sym (through-more k so_far.done (w.call ∷ []));
       records = omega (arith, w.records, so_far.records, length-append so_far.done (w.call ∷ []));
-      coordinates = w.coordinates ∙ ap (written (pairsOf w.call)) so_far.coordinates ∙ sym (noted_more so_far.done w.call list);
+      coordinates = w.coordinates ∙ ap (written (pairs_of w.call)) so_far.coordinates ∙ sym (noted_more so_far.done w.call list);
       text = laid_as (sym lines) (joined zero-le so_far.text w.text);
       fits = omega (arith, w.fits, same);
       stop = λ e. absurd (true≢false (sym on ∙ e));
@@ -116,7 +116,7 @@ module _ (bytes : List ℕ) (k : Desk) (n : ℕ) (list : List ℤ) (to : List �
         size : Size rest w.size
         size = whole-size rest w.call w.size w.is
 
-        lines : lines_from n k (so_far.done ++ w.call ∷ []) ≡ lines_from n k so_far.done ++ line_of p.records (deskOf l p.tally) w.call
+        lines : lines_from n k (so_far.done ++ w.call ∷ []) ≡ lines_from n k so_far.done ++ line_of p.records (desk_of l p.tally) w.call
         lines = one-line-more n k so_far.done w.call ∙ (λ i. lines_from n k so_far.done ++ line_of (sym so_far.records i) (sym so_far.desk i) w.call)
 
     ends : length now ≡ length to → Rests bytes p l list' now q l' list'' now' → Printed bytes k n list to q l' list'' now'

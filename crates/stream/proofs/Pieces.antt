@@ -18,7 +18,7 @@ use Rattle.districts.specs.Lent.{formed, means}
 use Rattle.tally.specs.Tally.{fresh, sum, run, accepted}
 use Rattle.tally.proofs.Totals.{sum-counts}
 use Rattle.history.specs.Histories.{Call, founding, splitting, merging, reporting, empty, after}
-use Rattle.history.specs.Adding.{sumOver, slotSum, slotWinding, ClearOf}
+use Rattle.history.specs.Adding.{sum_over, slot_sum, slot_winding, ClearOf}
 use Rattle.history.specs.Limits.{Within}
 use Rattle.history.proofs.Balanced.{districts-add-up}
 use Rattle.history.proofs.Windings.{windings-add-up}
@@ -29,9 +29,9 @@ use Rattle.records.proofs.Longer.{broken-longer}
 use Rattle.wording.specs.Text.{Laid}
 use Rattle.stream.specs.declared.Stop.{Stop}
 use Rattle.stream.specs.declared.Stop.TheVariants.{More, Broken}
-use Rattle.stream.specs.Replies.{talliedBy}
-use Rattle.stream.specs.Streams.{calls_of, left_of, brokenOff, Starts}
-use Rattle.stream.specs.Desks.{Desk, deskOf, opening, next, through, answersFrom, lines_from, brokenLine, lastLine, output}
+use Rattle.stream.specs.Replies.{tallied_by}
+use Rattle.stream.specs.Streams.{calls_of, left_of, broken_off, Starts}
+use Rattle.stream.specs.Desks.{Desk, desk_of, opening, next, through, answers_from, lines_from, broken_line, last_line, output}
 use Rattle.stream.specs.Printing.{Stopped}
 use Rattle.stream.specs.Pieces.{Standing, Begins, Piece, Part, Reads, last_of, bytes_of, done_of}
 use Rattle.stream.proofs.Unrolling.{Ended, none-taken}
@@ -45,8 +45,8 @@ unfolding through after
 register-after k [] = refl
 register-after k (c ∷ cs) = register-after (next k c) cs
 
-tally-after : (k : Desk) (cs : List Call) → (through k cs).tally ≡ run k.tally (answersFrom k.register cs)
-unfolding through answersFrom run talliedBy
+tally-after : (k : Desk) (cs : List Call) → (through k cs).tally ≡ run k.tally (answers_from k.register cs)
+unfolding through answers_from run tallied_by
 tally-after k [] = refl
 tally-after k (founding xs ∷ cs) = tally-after (next k (founding xs)) cs
 tally-after k (splitting d i j path ∷ cs) = tally-after (next k (splitting d i j path)) cs
@@ -60,7 +60,7 @@ pub record Since (bytes : List ℕ) (s : Standing) : Type 0 where
   pub done : List Call
   pub starts : Starts bytes done s.held
   pub form : formed s.lists ≡ true
-  pub desk : deskOf s.lists s.tally ≡ through opening done
+  pub desk : desk_of s.lists s.tally ≡ through opening done
   pub records : s.records ≡ length done
   pub written : s.written ≡ lines_from 0 opening done
   pub places : ℕ
@@ -91,7 +91,7 @@ since-more bytes s piece e so_far p =
       done = so_far.done ++ printed.done;
       starts = starts_more (bytes ++ piece) (s.held ++ piece) e.held so_far.done printed.done (starts-longer bytes s.held piece so_far.done so_far.starts) from;
       form = printed.form;
-      desk = ap (deskOf e.lists) p.tally ∙ printed.desk ∙ ap (λ d. through d printed.done) so_far.desk ∙ sym (through-more opening so_far.done printed.done);
+      desk = ap (desk_of e.lists) p.tally ∙ printed.desk ∙ ap (λ d. through d printed.done) so_far.desk ∙ sym (through-more opening so_far.done printed.done);
       records = omega (arith, p.records, printed.records, so_far.records, length-append so_far.done printed.done);
       written = p.written ∙ lines;
       places = length p.to - p.page.filled;
@@ -110,16 +110,16 @@ since-all bytes s [] so_far r = subst (λ b. Since b s) (sym (append-nil bytes))
 since-all bytes s (p ∷ ps) so_far r =
     subst (λ b. Since b (last_of p.left ps)) (append_assoc bytes p.bytes (bytes_of ps)) (since-all (bytes ++ p.bytes) p.left ps (since-more bytes s p.bytes p.left so_far r.0) r.1)
 
-abbrev isBroken : Front → ℕ
-isBroken (whole c n) = 0
-isBroken more = 0
-isBroken broken = 1
+abbrev is_broken : Front → ℕ
+is_broken (whole c n) = 0
+is_broken more = 0
+is_broken broken = 1
 
 -- a broken record has bytes
 some-there : (bytes : List ℕ) → front bytes ≡ broken → 0 < length bytes
 some-there bytes e = elim (dec_lt 0 (length bytes)) [
   | yes some ↦ some
-  | no none ↦ absurd (let f : ⊥ = omega (arith, ap isBroken (sym (front-short bytes (omega (arith, none))) ∙ e)) in f)
+  | no none ↦ absurd (let f : ⊥ = omega (arith, ap is_broken (sym (front-short bytes (omega (arith, none))) ∙ e)) in f)
 ]
 
 -- ---- what follows from it
@@ -136,21 +136,21 @@ module _ (bytes : List ℕ) (s : Standing) (so_far : Since bytes s) where
   is-done = sym (take_at so_far.done (calls_of s.held) s.records (sym so_far.records)) ∙ ap (take s.records) (sym (starts-calls bytes s.held so_far.done so_far.starts))
 
   -- where no record stands at the front of what is held, nor can come there, all is written but the last lines
-  closes : (rest : List ℕ) → Ended (s.held ++ rest) → output (bytes ++ rest) ≡ s.written ++ brokenLine (ltb 0 (length (s.held ++ rest))) s.records ++ lastLine s.records s.tally
+  closes : (rest : List ℕ) → Ended (s.held ++ rest) → output (bytes ++ rest) ≡ s.written ++ broken_line (ltb 0 (length (s.held ++ rest))) s.records ++ last_line s.records s.tally
   unfolding output
   closes rest ended =
       let calls : calls_of (bytes ++ rest) ≡ so_far.done = calls-with rest ∙ ap (λ cs. so_far.done ++ cs) ended.calls ∙ append-nil so_far.done in
       let left : left_of (bytes ++ rest) ≡ s.held ++ rest = left-with rest ∙ ended.left in
-      (λ i. lines_from 0 opening (calls i) ++ brokenLine (ltb 0 (length (left i))) (length (calls i)) ++ lastLine (length (calls i)) (through opening (calls i)).tally)
-      ∙ (λ i. sym so_far.written i ++ brokenLine (ltb 0 (length (s.held ++ rest))) (sym so_far.records i) ++ lastLine (sym so_far.records i) (sym so_far.desk i).tally)
+      (λ i. lines_from 0 opening (calls i) ++ broken_line (ltb 0 (length (left i))) (length (calls i)) ++ last_line (length (calls i)) (through opening (calls i)).tally)
+      ∙ (λ i. sym so_far.written i ++ broken_line (ltb 0 (length (s.held ++ rest))) (sym so_far.records i) ++ last_line (sym so_far.records i) (sym so_far.desk i).tally)
 
   begins-with : (rest : List ℕ) → (text : List ℕ) × (output (bytes ++ rest) ≡ s.written ++ text)
   unfolding output
   begins-with rest =
       let all = calls_of (bytes ++ rest) in
       let later = lines_from (0 + length so_far.done) (through opening so_far.done) (calls_of (s.held ++ rest)) in
-      let cut = brokenLine (brokenOff (bytes ++ rest)) (length all) in
-      let end = lastLine (length all) (through opening all).tally in
+      let cut = broken_line (broken_off (bytes ++ rest)) (length all) in
+      let end = last_line (length all) (through opening all).tally in
       let lines : lines_from 0 opening all ≡ s.written ++ later = ap (lines_from 0 opening) (calls-with rest) ∙ lines_more 0 opening so_far.done (calls_of (s.held ++ rest)) ∙ ap (λ w. w ++ later) (sym so_far.written) in
       (later ++ cut ++ end, ap (λ l. l ++ cut ++ end) lines ∙ ap (λ l. l ++ end) (append_assoc s.written later cut) ∙ append_assoc s.written (later ++ cut) end)
 
@@ -179,7 +179,7 @@ module _ (s : Standing) (ps : List Part) (begin : Begins s) (reads : Reads s ps)
       (so_far.records ∙ ap length (is-done bytes e so_far), omega (arith, so_far.records, ap length first, length-append so_far.done (calls_of e.held)))
 
   -- the register and the tally are what they make of the opening
-  pub pieces-desk : (formed e.lists ≡ true) × (deskOf e.lists e.tally ≡ through opening (done_of bytes e))
+  pub pieces-desk : (formed e.lists ≡ true) × (desk_of e.lists e.tally ≡ through opening (done_of bytes e))
   pieces-desk = (so_far.form, so_far.desk ∙ ap (through opening) (is-done bytes e so_far))
 
   -- and what was written is their lines
@@ -191,34 +191,34 @@ module _ (s : Standing) (ps : List Part) (begin : Begins s) (reads : Reads s ps)
   pieces-begin rest = begins-with bytes e so_far rest
 
   -- at the end of the input, where what is left is the beginning of a record or nothing, the last lines make it the output
-  pub pieces-output : e.stop ≡ More → e.written ++ brokenLine (ltb 0 (length e.held)) e.records ++ lastLine e.records e.tally ≡ output bytes
+  pub pieces-output : e.stop ≡ More → e.written ++ broken_line (ltb 0 (length e.held)) e.records ++ last_line e.records e.tally ≡ output bytes
   pieces-output stop =
       let none = append-nil e.held in
       let ended : Ended (e.held ++ []) = subst Ended (sym none) (none-taken e.held more (stops_at bytes e so_far More stop).1 refl) in
-      sym (ap output (sym (append-nil bytes)) ∙ closes bytes e so_far [] ended ∙ ap (λ h. e.written ++ brokenLine (ltb 0 (length h)) e.records ++ lastLine e.records e.tally) none)
+      sym (ap output (sym (append-nil bytes)) ∙ closes bytes e so_far [] ended ∙ ap (λ h. e.written ++ broken_line (ltb 0 (length h)) e.records ++ last_line e.records e.tally) none)
 
   -- at a broken record they do, whatever stands behind it
-  pub pieces-broken : e.stop ≡ Broken → (rest : List ℕ) → e.written ++ brokenLine true e.records ++ lastLine e.records e.tally ≡ output (bytes ++ rest)
+  pub pieces-broken : e.stop ≡ Broken → (rest : List ℕ) → e.written ++ broken_line true e.records ++ last_line e.records e.tally ≡ output (bytes ++ rest)
   pieces-broken stop rest =
       let there = (stops_at bytes e so_far Broken stop).1 in
       let ended = none-taken (e.held ++ rest) broken (broken-longer e.held rest there) refl in
       let some : 0 < length (e.held ++ rest) = some-there (e.held ++ rest) (broken-longer e.held rest there) in
-      sym (closes bytes e so_far rest ended ∙ ap (λ b. e.written ++ brokenLine b e.records ++ lastLine e.records e.tally) (lt-ltb 0 _ some))
+      sym (closes bytes e so_far rest ended ∙ ap (λ b. e.written ++ broken_line b e.records ++ last_line e.records e.tally) (lt-ltb 0 _ some))
 
   is-after : after empty (done_of bytes e) ≡ grouped
   is-after = sym (ap (λ (k : Desk). k.register) pieces-desk.1 ∙ register-after opening (done_of bytes e))
 
   -- demand 3: at a point on no edge the winding numbers about all districts in use add up to that about the outline
-  pub pieces-windings : (R : Point) → ClearOf grouped R → sumOver (slotWinding R) grouped.districts ≡ slotWinding R grouped.outline
-  pieces-windings R = subst (λ g. ClearOf g R → sumOver (slotWinding R) g.districts ≡ slotWinding R g.outline) is-after (windings-add-up (done_of bytes e) R)
+  pub pieces-windings : (R : Point) → ClearOf grouped R → sum_over (slot_winding R) grouped.districts ≡ slot_winding R grouped.outline
+  pieces-windings R = subst (λ g. ClearOf g R → sum_over (slot_winding R) g.districts ≡ slot_winding R g.outline) is-after (windings-add-up (done_of bytes e) R)
 
   -- and so do the sums of any weight of edges that changes its sign with their direction, at every point
-  pub pieces-sums : (f : Weight) → Antisymmetric f → sumOver (slotSum f) grouped.districts ≡ slotSum f grouped.outline
-  pieces-sums f a = subst (λ g. sumOver (slotSum f) g.districts ≡ slotSum f g.outline) is-after (districts-add-up f a (done_of bytes e))
+  pub pieces-sums : (f : Weight) → Antisymmetric f → sum_over (slot_sum f) grouped.districts ≡ slot_sum f grouped.outline
+  pieces-sums f a = subst (λ g. sum_over (slot_sum f) g.districts ≡ slot_sum f g.outline) is-after (districts-add-up f a (done_of bytes e))
 
   pub pieces-limits : Within grouped
   pieces-limits = subst Within is-after (within-limits (done_of bytes e))
 
   -- all counts together are the reports that were not refused
-  pub pieces-counted : sum e.tally ≡ accepted fresh (answersFrom empty (done_of bytes e))
-  pieces-counted = ap sum (ap (λ (k : Desk). k.tally) pieces-desk.1 ∙ tally-after opening (done_of bytes e)) ∙ sum-counts (answersFrom empty (done_of bytes e))
+  pub pieces-counted : sum e.tally ≡ accepted fresh (answers_from empty (done_of bytes e))
+  pieces-counted = ap sum (ap (λ (k : Desk). k.tally) pieces-desk.1 ∙ tally-after opening (done_of bytes e)) ∙ sum-counts (answers_from empty (done_of bytes e))

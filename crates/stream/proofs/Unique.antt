@@ -10,51 +10,51 @@ use Rattle.wording.specs.declared.Kind as CodeKind
 use Rattle.wording.specs.declared.Kind.TheVariants as Kinds
 use Rattle.wording.specs.declared.Said as CodeSaid
 use Rattle.wording.specs.declared.Said.TheVariants.{Ok, OkWith, Sorted, Refused}
-use Rattle.wording.specs.Lines.{Kind, outline, split, merge, report, broken, kind_of, Said, ok, okWith, sorted, refused, said_of}
+use Rattle.wording.specs.Lines.{Kind, outline, split, merge, report, broken, kind_of, Said, ok, ok_with, sorted, refused, said_of}
 use Rattle.records.specs.Layout as Layout
 use Rattle.records.specs.Layout.{Front, whole, more}
 use Rattle.stream.specs.declared.Told as Code
 use Rattle.stream.specs.declared.Told.TheVariants.{Answered, More, Broken}
 use Rattle.stream.specs.declared.Advanced.{Advanced}
-use Rattle.stream.specs.Replies.{judgedOn, Makes, LeftBy}
-use Rattle.stream.specs.Advancing.{Told, answered, unfinished, unreadable, toldOf, LeftFor, AdvancedBy}
+use Rattle.stream.specs.Replies.{judged_on, Makes, LeftBy}
+use Rattle.stream.specs.Advancing.{Told, answered, unfinished, unreadable, told_of, LeftFor, AdvancedBy}
 
 -- the code's values read back
-abbrev kindBack : Kind → CodeKind.Kind
-kindBack outline = Kinds.Outline
-kindBack split = Kinds.Split
-kindBack merge = Kinds.Merge
-kindBack (report r) = Kinds.Report r
-kindBack broken = Kinds.Broken
+abbrev kind_back : Kind → CodeKind.Kind
+kind_back outline = Kinds.Outline
+kind_back split = Kinds.Split
+kind_back merge = Kinds.Merge
+kind_back (report r) = Kinds.Report r
+kind_back broken = Kinds.Broken
 
-kind-back : (k : CodeKind.Kind) → kindBack (kind_of k) ≡ k
+kind-back : (k : CodeKind.Kind) → kind_back (kind_of k) ≡ k
 kind-back Kinds.Outline = refl
 kind-back Kinds.Split = refl
 kind-back Kinds.Merge = refl
 kind-back (Kinds.Report r) = refl
 kind-back Kinds.Broken = refl
 
-abbrev saidBack : Said → CodeSaid.Said
-saidBack ok = Ok
-saidBack (okWith d) = OkWith d
-saidBack (sorted b) = Sorted (class_of b)
-saidBack (refused n) = Refused n
+abbrev said_back : Said → CodeSaid.Said
+said_back ok = Ok
+said_back (ok_with d) = OkWith d
+said_back (sorted b) = Sorted (class_of b)
+said_back (refused n) = Refused n
 
-said-back : (s : CodeSaid.Said) → saidBack (said_of s) ≡ s
+said-back : (s : CodeSaid.Said) → said_back (said_of s) ≡ s
 said-back Ok = refl
 said-back (OkWith d) = refl
 said-back (Sorted c) = ap Sorted (class_back c)
 said-back (Refused n) = refl
 
-abbrev toldBack : Told → Code.Told
-toldBack (answered k s) = Answered (kindBack k) (saidBack s)
-toldBack unfinished = More
-toldBack unreadable = Broken
+abbrev told_back : Told → Code.Told
+told_back (answered k s) = Answered (kind_back k) (said_back s)
+told_back unfinished = More
+told_back unreadable = Broken
 
-told_back : (t : Code.Told) → toldBack (toldOf t) ≡ t
-told_back (Answered k s) = λ i. Answered (kind-back k i) (said-back s i)
-told_back More = refl
-told_back Broken = refl
+told_back_lem : (t : Code.Told) → told_back (told_of t) ≡ t
+told_back_lem (Answered k s) = λ i. Answered (kind-back k i) (said-back s i)
+told_back_lem More = refl
+told_back_lem Broken = refl
 
 -- two lists left mean the same register, in form and meaning
 abbrev Alike : Lists → Lists → Type 0
@@ -64,7 +64,7 @@ alike : (before after after' : Lists) → before ≡ after → before ≡ after'
 alike before after after' e f = (ap means (sym e ∙ f), ap formed (sym e ∙ f))
 
 made_alike : (c : Call) (before after after' : Lists) → Makes c before after → Makes c before after' → Alike after after'
-made_alike c before after after' = let v = judgedOn (formed before) (means before) c in both_left v v refl (made (means before) c) before after after'
+made_alike c before after after' = let v = judged_on (formed before) (means before) c in both_left v v refl (made (means before) c) before after after'
 
 left-alike : (c : Call) (before after after' : Lists) → LeftBy c before after → LeftBy c before after' → Alike after after'
 left-alike (founding xs) before after after' = made_alike (founding xs) before after after'
@@ -90,7 +90,7 @@ pub one-advance : (r s : Advanced) (f : Front) (t : Tally) (lent to to' : List �
 one-advance r s f t lent to to' before after after' p q =
     let l = front-alike f before after after' p.left q.left in
     record {
-      told = sym (told_back r.told) ∙ ap toldBack (p.told ∙ sym q.told) ∙ told_back s.told;
+      told = sym (told_back_lem r.told) ∙ ap told_back (p.told ∙ sym q.told) ∙ told_back_lem s.told;
       taken = p.taken ∙ sym q.taken;
       tally = p.tally ∙ sym q.tally;
       coordinates = p.coordinates ∙ sym q.coordinates;

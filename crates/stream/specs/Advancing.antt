@@ -8,11 +8,11 @@ use Rattle.history.specs.Histories.{reporting}
 use Rattle.wording.specs.Lines as Lines
 use Rattle.wording.specs.Lines.{Kind, Said, said_of}
 use Rattle.records.specs.Layout.{Front, whole, more, broken}
-use Rattle.records.specs.Decoding.{takenFor, writtenFor}
+use Rattle.records.specs.Decoding.{taken_for, written_for}
 use Rattle.stream.specs.declared.Told as Code
 use Rattle.stream.specs.declared.Told.TheVariants.{Answered, More, Broken}
 use Rattle.stream.specs.declared.Advanced.{Advanced}
-use Rattle.stream.specs.Replies.{replied, talliedBy, kind_of, LeftBy}
+use Rattle.stream.specs.Replies.{replied, tallied_by, kind_of, LeftBy}
 
 -- a record with its kind and answer, the beginning of one, or a broken one
 pub data Told : Type 0 where
@@ -20,20 +20,20 @@ pub data Told : Type 0 where
   unfinished : Told
   unreadable : Told
 
-abbrev pub toldOf : Code.Told → Told
-toldOf (Answered k s) = answered (Lines.kind_of k) (said_of s)
-toldOf More = unfinished
-toldOf Broken = unreadable
+abbrev pub told_of : Code.Told → Told
+told_of (Answered k s) = answered (Lines.kind_of k) (said_of s)
+told_of More = unfinished
+told_of Broken = unreadable
 
-abbrev pub toldFor : Front → Bool → Register → Tally → Told
-toldFor (whole c n) wellFormed g t = answered (kind_of c) (replied wellFormed g t c)
-toldFor more wellFormed g t = unfinished
-toldFor broken wellFormed g t = unreadable
+abbrev pub told_for : Front → Bool → Register → Tally → Told
+told_for (whole c n) well_formed g t = answered (kind_of c) (replied well_formed g t c)
+told_for more well_formed g t = unfinished
+told_for broken well_formed g t = unreadable
 
-abbrev pub talliedFor : Front → Bool → Register → Tally → Tally
-talliedFor (whole c n) wellFormed g t = talliedBy wellFormed g t c
-talliedFor more wellFormed g t = t
-talliedFor broken wellFormed g t = t
+abbrev pub tallied_for : Front → Bool → Register → Tally → Tally
+tallied_for (whole c n) well_formed g t = tallied_by well_formed g t c
+tallied_for more well_formed g t = t
+tallied_for broken well_formed g t = t
 
 abbrev pub LeftFor : Front → Lists → Lists → Type 0
 LeftFor (whole c n) before after = LeftBy c before after
@@ -42,14 +42,14 @@ LeftFor broken before after = before ≡ after
 
 -- a report is answered and counted, in a well-formed register
 pub record ReportedBy (r : Advanced) (bytes number : ℕ) (p : Position) (t : Tally) (g : Register) : Type 0 where
-  pub told : toldOf r.told ≡ answered (Lines.report number) (replied true g t (reporting number p))
+  pub told : told_of r.told ≡ answered (Lines.report number) (replied true g t (reporting number p))
   pub taken : r.taken ≡ bytes
-  pub tally : r.tally ≡ talliedBy true g t (reporting number p)
+  pub tally : r.tally ≡ tallied_by true g t (reporting number p)
 
 -- the record is applied, its bytes are counted, and the lent coordinates start with its own; without a whole record nothing changes
 pub record AdvancedBy (r : Advanced) (f : Front) (t : Tally) (to to' : List ℤ) (before after : Lists) : Type 0 where
-  pub told : toldOf r.told ≡ toldFor f (formed before) (means before) t
-  pub taken : r.taken ≡ takenFor f
-  pub tally : r.tally ≡ talliedFor f (formed before) (means before) t
-  pub coordinates : to' ≡ written (writtenFor f) to
+  pub told : told_of r.told ≡ told_for f (formed before) (means before) t
+  pub taken : r.taken ≡ taken_for f
+  pub tally : r.tally ≡ tallied_for f (formed before) (means before) t
+  pub coordinates : to' ≡ written (written_for f) to
   pub left : LeftFor f before after

@@ -9,7 +9,7 @@ use Rattle.stream.specs.declared.Stop.{Stop}
 use Rattle.stream.specs.declared.Stop.TheVariants.{More}
 use Rattle.stream.specs.declared.Page.{Page}
 use Rattle.stream.specs.Streams.{calls_of}
-use Rattle.stream.specs.Desks.{deskOf}
+use Rattle.stream.specs.Desks.{desk_of}
 use Rattle.stream.specs.Printing.{Printed}
 
 -- where a program stands between two pieces: the register's lists, the tally, the number of records done, the bytes that were read and not
@@ -39,7 +39,7 @@ pub record Piece (s : Standing) (bytes : List ℕ) (e : Standing) : Type 0 where
   pub list' : List ℤ
   pub to : List ℕ
   pub to' : List ℕ
-  pub printed : Printed (s.held ++ bytes) (deskOf s.lists s.tally) s.records list to page e.lists list' to'
+  pub printed : Printed (s.held ++ bytes) (desk_of s.lists s.tally) s.records list to page e.lists list' to'
   pub ended : page.going ≡ false
   pub tally : e.tally ≡ page.tally
   pub records : e.records ≡ page.records

@@ -3,14 +3,14 @@ use Rattle.std.specs.Prelude.{ℕ, ◌+◌, ◌-◌, ◌≤◌, ◌<◌, ◌≡�
 use Rattle.districts.specs.Lent.{Lists, formed, written}
 use Rattle.history.specs.Histories.{Call}
 use Rattle.records.specs.Layout.{front, whole, more, broken}
-use Rattle.records.specs.Decoding.{pairsOf}
+use Rattle.records.specs.Decoding.{pairs_of}
 use Rattle.wording.specs.Text.{Laid}
 use Rattle.wording.specs.Lines.{room}
 use Rattle.stream.specs.declared.Stop.{Stop}
 use Rattle.stream.specs.declared.Stop.TheVariants.{Full, More, Broken}
 use Rattle.stream.specs.declared.Page.{Page}
 use Rattle.stream.specs.Streams.{Starts}
-use Rattle.stream.specs.Desks.{Desk, deskOf, next, through, line_of, lines_from}
+use Rattle.stream.specs.Desks.{Desk, desk_of, next, through, line_of, lines_from}
 
 -- why printing stopped: no room for a line; or else the beginning of a record at the front of what is left, or a broken one
 abbrev pub Stopped : Stop → ℕ → List ℕ → Type 0
@@ -26,7 +26,7 @@ Roomy places n k (c ∷ cs) = (room ≤ places) × Roomy (places - length (line_
 -- the lent list of coordinates after some calls: each writes its own from the first place on
 unfoldable pub noted : List Call → List ℤ → List ℤ
 noted [] list = list
-noted (c ∷ cs) list = noted cs (written (pairsOf c) list)
+noted (c ∷ cs) list = noted cs (written (pairs_of c) list)
 
 -- some first calls of the bytes are done, from desk k on, each where there was room for its line; the lines stand in the lent list, from number
 -- n on, and the coordinates of the calls in the other
@@ -36,7 +36,7 @@ pub record Printed (bytes : List ℕ) (k : Desk) (n : ℕ) (list : List ℤ) (to
   pub there : p.at ≤ length bytes
   pub roomy : Roomy (length to) n k done
   pub form : formed l ≡ true
-  pub desk : deskOf l p.tally ≡ through k done
+  pub desk : desk_of l p.tally ≡ through k done
   pub records : p.records ≡ n + length done
   pub coordinates : list' ≡ noted done list
   pub text : Laid p.filled 0 (lines_from n k done) to to'
@@ -65,10 +65,10 @@ pub record Wrote (bytes : List ℕ) (p : Page) (l : Lists) (list : List ℤ) (to
   pub at : q.at ≡ p.at + size
   pub roomy : room ≤ length to - p.filled
   pub form : formed l' ≡ true
-  pub desk : deskOf l' q.tally ≡ next (deskOf l p.tally) call
+  pub desk : desk_of l' q.tally ≡ next (desk_of l p.tally) call
   pub records : q.records ≡ p.records + 1
-  pub coordinates : list' ≡ written (pairsOf call) list
-  pub text : Laid q.filled p.filled (line_of p.records (deskOf l p.tally) call) to to'
+  pub coordinates : list' ≡ written (pairs_of call) list
+  pub text : Laid q.filled p.filled (line_of p.records (desk_of l p.tally) call) to to'
   pub fits : q.filled ≤ length to
 
 -- nothing is done

@@ -15,25 +15,25 @@ calls_within zero bytes = []
 calls_within (suc most) bytes = and_then (front bytes) (λ n. calls_within most (drop n bytes))
 
 -- what is left behind a record; without one, all the bytes
-abbrev pub behindIt : Front → List ℕ → (ℕ → List ℕ) → List ℕ
-behindIt (whole c n) bytes behind = behind n
-behindIt more bytes behind = bytes
-behindIt broken bytes behind = bytes
+abbrev pub behind_it : Front → List ℕ → (ℕ → List ℕ) → List ℕ
+behind_it (whole c n) bytes behind = behind n
+behind_it more bytes behind = bytes
+behind_it broken bytes behind = bytes
 
-unfoldable pub leftWithin : ℕ → List ℕ → List ℕ
-leftWithin zero bytes = bytes
-leftWithin (suc most) bytes = behindIt (front bytes) bytes (λ n. leftWithin most (drop n bytes))
+unfoldable pub left_within : ℕ → List ℕ → List ℕ
+left_within zero bytes = bytes
+left_within (suc most) bytes = behind_it (front bytes) bytes (λ n. left_within most (drop n bytes))
 
 -- every record has bytes, so there are no more records than bytes
 unfoldable pub calls_of : List ℕ → List Call
 calls_of bytes = calls_within (length bytes) bytes
 
 unfoldable pub left_of : List ℕ → List ℕ
-left_of bytes = leftWithin (length bytes) bytes
+left_of bytes = left_within (length bytes) bytes
 
 -- a cut or a broken record, or trailing bytes: refusal 13
-abbrev pub brokenOff : List ℕ → Bool
-brokenOff bytes = ltb 0 (length (left_of bytes))
+abbrev pub broken_off : List ℕ → Bool
+broken_off bytes = ltb 0 (length (left_of bytes))
 
 -- the bytes start with the records of these calls, one behind the other, and the rest is what is behind them
 unfoldable pub Starts : List ℕ → List Call → List ℕ → Type 0

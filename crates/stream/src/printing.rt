@@ -2,7 +2,7 @@
 // no whole record.
 ghost use Rattle.std.specs.Prelude.{◌≡◌, true, false, ◌+◌, ◌<◌, length};
 ghost use Rattle.districts.specs.Lent.{lent, formed};
-ghost use Rattle.stream.specs.Desks.{deskOf};
+ghost use Rattle.stream.specs.Desks.{desk_of};
 ghost use Rattle.index.specs.Both.{index, Fitting};
 ghost use Rattle.stream.specs.Printing.{Printed, numbers, Ready, TurnedBy};
 
@@ -103,7 +103,7 @@ pub fn print(
     requires runs_value { formed (lent ox.old oy.old sx.old sy.old runs.old) ≡ true }
     requires fitting { Fitting axes sx.old sy.old runs.old (index bx.old by.old mx.old my.old) }
     requires bytes_bound { number + length bytes.now < numbers }
-    ensures { Printed bytes.now (deskOf (lent ox.old oy.old sx.old sy.old runs.old) tally) number coordinates.old to.old result (lent ox.new oy.new sx.new sy.new runs.new) coordinates.new to.new × (result.going ≡ false) × Fitting result.axes sx.new sy.new runs.new (index bx.new by.new mx.new my.new) }
+    ensures { Printed bytes.now (desk_of (lent ox.old oy.old sx.old sy.old runs.old) tally) number coordinates.old to.old result (lent ox.new oy.new sx.new sy.new runs.new) coordinates.new to.new × (result.going ≡ false) × Fitting result.axes sx.new sy.new runs.new (index bx.new by.new mx.new my.new) }
 {
     let mut p = Page {
         at: 0,

@@ -1,10 +1,10 @@
 // The answers of the register's calls, as a line says them.
 ghost use Rattle.std.specs.Prelude.{◌≡◌};
 ghost use Rattle.districts.specs.Answers.{answer_of};
-ghost use Rattle.register.specs.Calls.{outcomeOf};
+ghost use Rattle.register.specs.Calls.{outcome_of};
 ghost use Rattle.changes.specs.Answers as Changes;
 ghost use Rattle.wording.specs.Lines.{ok, said_of};
-ghost use Rattle.stream.specs.Replies.{sayingOf, belonging, changing};
+ghost use Rattle.stream.specs.Replies.{saying_of, belonging, changing};
 
 use changes::Changed;
 use districts::Assigned;
@@ -12,7 +12,7 @@ use register::Founded;
 use wording::Said;
 
 pub fn founded(f: Founded) -> Said
-    ensures { said_of result ≡ sayingOf (outcomeOf f) ok }
+    ensures { said_of result ≡ saying_of (outcome_of f) ok }
 {
     match f {
         Founded::Done => Said::Ok,

@@ -11,7 +11,7 @@ use Rattle.districts.specs.Counts.{sum_to}
 use Rattle.districts.specs.Register.{numbers}
 use Rattle.districts.specs.Answers.{Belongs, border, one, none, several, Answer, report, refused}
 use Rattle.tally.specs.declared.Tally.{Tally}
-use Rattle.tally.specs.Tally.{fresh, full, raised, tallied, answered, onesOf, sum, run, accepts, accepted}
+use Rattle.tally.specs.Tally.{fresh, full, raised, tallied, answered, ones_of, sum, run, accepts, accepted}
 use Rattle.tally.proofs.Raising.{one_has}
 use Rattle.tally.proofs.Sums.{sum-raised}
 
@@ -30,7 +30,7 @@ raised-sum : (t : Tally) (b : Belongs) → Whole t → full t b ≡ false → su
 raised-sum t (border d at) w e = omega arith
 raised-sum t (one d) w e =
     let h : d < numbers = one_has t d e in
-    let up : onesOf (raised t (one d)) ≡ onesOf t + 1 =
+    let up : ones_of (raised t (one d)) ≡ ones_of t + 1 =
     sum-raised (λ k. get_or t.ones k 0) (λ k. get_or (raised t (one d)).ones k 0) d (get_or-set_same t.ones d _ 0 (omega arith)) (λ k n. get_or-set_other t.ones d k _ 0 n) numbers h in
     omega arith
 raised-sum t none w e = omega arith

@@ -2,7 +2,7 @@
 use mathlib.Core.Path.{◌≡◌, sym, ◌∙◌}
 use Rattle.districts.specs.declared.Assigned.{Assigned}
 use Rattle.districts.specs.Answers.{answer_of}
-use Rattle.districts.proofs.Unique.{answerOf-injective}
+use Rattle.districts.proofs.Unique.{answer_of-injective}
 use Rattle.tally.specs.declared.Tally.{Tally}
 use Rattle.tally.specs.Tally.{tallied, answered}
 
@@ -11,4 +11,4 @@ pub one-outcome : (t : Tally) (a : Assigned) (u v : Tally) (r s : Assigned)
     → (u ≡ tallied t (answer_of a)) × (answer_of r ≡ answered t (answer_of a))
     → (v ≡ tallied t (answer_of a)) × (answer_of s ≡ answered t (answer_of a))
     → (u ≡ v) × (r ≡ s)
-one-outcome t a u v r s p q = (p.0 ∙ sym q.0, answerOf-injective r s (p.1 ∙ sym q.1))
+one-outcome t a u v r s p q = (p.0 ∙ sym q.0, answer_of-injective r s (p.1 ∙ sym q.1))

@@ -52,12 +52,12 @@ answered t (report r b) = cond (full t b) (refused 14) (report r b)
 answered t (refused n) = refused n
 
 -- the 64 counts of One together
-abbrev pub onesOf : Tally → ℕ
-onesOf t = sum_to numbers (λ d. get_or t.ones d 0)
+abbrev pub ones_of : Tally → ℕ
+ones_of t = sum_to numbers (λ d. get_or t.ones d 0)
 
 -- all 67 counts together
 abbrev pub sum : Tally → ℕ
-sum t = onesOf t + t.border + t.none + t.several
+sum t = ones_of t + t.border + t.none + t.several
 
 -- the tally after a list of answers, one at a time
 unfoldable pub run : Tally → List Answer → Tally

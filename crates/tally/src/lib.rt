@@ -2,7 +2,7 @@
 // Several. `count` raises it where the caller keeps it, one report at a time. No public function has a `requires`.
 ghost use Rattle.std.specs.Prelude.{◌≡◌, false, cond};
 ghost use Rattle.districts.specs.Answers.{belongs, answer_of};
-ghost use Rattle.tally.specs.Tally.{most, fresh, count_of, uncounted, counting, onesOf, tallied, answered};
+ghost use Rattle.tally.specs.Tally.{most, fresh, count_of, uncounted, counting, ones_of, tallied, answered};
 
 use districts::{Assigned, Class, NUMBERS, Report};
 use refusals::Refusal;
@@ -115,7 +115,7 @@ pub fn count(tally: &mut Tally, answer: Assigned) -> Assigned
 
 // The 64 counts of One together: what the grouping program prints.
 pub fn sum_of_ones(t: Tally) -> u64
-    ensures { result ≡ onesOf t }
+    ensures { result ≡ ones_of t }
 {
     let ones = t.ones;
     let mut sum: u64 = 0;

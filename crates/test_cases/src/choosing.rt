@@ -2,7 +2,7 @@
 // to be refused.
 ghost use Rattle.std.specs.Prelude.{◌≡◌, ◌≤◌, length};
 ghost use Rattle.test_cases.specs.Room.{room};
-ghost use Rattle.test_rows.specs.Shape.{all_rows, mostVertices};
+ghost use Rattle.test_rows.specs.Shape.{all_rows, most_vertices};
 
 use crate::chance::{draw, seldom};
 use crate::matching;
@@ -47,7 +47,7 @@ pub struct Asked {
 
 // An index of a ring of n, or seldom one beyond.
 pub fn index(n: usize, seed: &mut usize) -> usize
-    requires { n ≤ mostVertices }
+    requires { n ≤ most_vertices }
 {
     if n == 0 {
         return draw(seed, SHORT);

@@ -1,6 +1,6 @@
 // A common run of two districts, looked for in the rows, so that merges are accepted.
 ghost use Rattle.std.specs.Prelude.{◌≡◌, ◌≤◌, length};
-ghost use Rattle.test_rows.specs.Shape.{all_rows, mostVertices};
+ghost use Rattle.test_rows.specs.Shape.{all_rows, most_vertices};
 
 use crate::chance::draw;
 use crate::choosing;
@@ -57,7 +57,7 @@ fn neighbour(rows: &[i32], d: usize, a: usize, from: usize) -> Found
 // How many edges the runs of two districts from a on and from b back have in common; at most one less than either has.
 fn common(rows: &[i32], d: usize, a: usize, e: usize, b: usize) -> usize
     requires { length rows.now ≡ all_rows }
-    ensures { result ≤ mostVertices }
+    ensures { result ≤ most_vertices }
 {
     let most = least(test_rows::size(rows, d), test_rows::size(rows, e));
     let mut k = 1;
@@ -72,7 +72,7 @@ fn common(rows: &[i32], d: usize, a: usize, e: usize, b: usize) -> usize
 
 // All of a common run, or by chance a part of it or an edge too many.
 fn varied(k: usize, seed: &mut usize) -> usize
-    requires { k ≤ mostVertices }
+    requires { k ≤ most_vertices }
 {
     match draw(seed, 8) {
         0 => k + 1,

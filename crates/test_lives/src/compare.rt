@@ -1,11 +1,11 @@
 // Whether both registers hold the same: every district's ring, vertex by vertex, the unused numbers, and the outline.
 ghost use Rattle.std.specs.Prelude.{◌≡◌, ◌<◌, ◌≤◌, length};
-ghost use Rattle.test_rows.specs.Shape.{all_rows, mostVertices};
+ghost use Rattle.test_rows.specs.Shape.{all_rows, most_vertices};
 
 // Whether the vertices in two columns are the first of row d.
 fn vertices_agree(xs: &[i32], ys: &[i32], rows: &[i32], d: usize) -> bool
     requires rows_len { length rows.now ≡ all_rows }
-    requires xs_len { (length xs.now ≡ length ys.now) × (length xs.now ≤ mostVertices) }
+    requires xs_len { (length xs.now ≡ length ys.now) × (length xs.now ≤ most_vertices) }
 {
     let mut good = true;
     let mut k = 0;

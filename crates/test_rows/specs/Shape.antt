@@ -6,5 +6,5 @@ abbrev pub all_rows : ℕ
 all_rows = 270402
 
 -- the most vertices of a row
-abbrev pub mostVertices : ℕ
-mostVertices = 2048
+abbrev pub most_vertices : ℕ
+most_vertices = 2048

@@ -1,6 +1,6 @@
 // Merging: the result is built vertex by vertex in the spare row.
 ghost use Rattle.std.specs.Prelude.{◌≡◌, ◌<◌, ◌≤◌, length};
-ghost use Rattle.test_rows.specs.Shape.{all_rows, mostVertices};
+ghost use Rattle.test_rows.specs.Shape.{all_rows, most_vertices};
 
 use crate::splitting::vertices_of;
 use crate::{SPARE, Told, row};
@@ -18,7 +18,7 @@ pub fn same(rows: &[i32], d: usize, i: usize, e: usize, j: usize, t: usize) -> b
 // Whether the k + 1 vertices of row d from a on are those of row e from b back.
 fn matches(rows: &[i32], d: usize, a: usize, e: usize, b: usize, k: usize) -> bool
     requires rows_len { length rows.now ≡ all_rows }
-    requires k_lt_most_vertices { k < mostVertices }
+    requires k_lt_most_vertices { k < most_vertices }
 {
     let mut all = true;
     let mut t = 0;
@@ -41,7 +41,7 @@ fn run(
     k: usize,
 ) -> Told
     requires rows_len { length rows.now ≡ all_rows }
-    requires n_le_most_vertices { (n ≤ mostVertices) × (m ≤ mostVertices) }
+    requires n_le_most_vertices { (n ≤ most_vertices) × (m ≤ most_vertices) }
 {
     if (n <= a) | (m <= b) {
         return Told::Refused(crate::BAD_INDEX);

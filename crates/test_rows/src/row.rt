@@ -1,7 +1,7 @@
 // One row: read, and written by adding a vertex behind the last. Numbers of rows and indices are taken as they come: a row beyond the
 // last reads as unused and takes no vertex, and indices wrap.
 ghost use Rattle.std.specs.Prelude.{◌≡◌, ◌+◌, ◌<◌, ◌≤◌, length};
-ghost use Rattle.test_rows.specs.Shape.{all_rows, mostVertices};
+ghost use Rattle.test_rows.specs.Shape.{all_rows, most_vertices};
 
 use crate::{MOST_VERTICES, ROW_LENGTH, ROWS, SPARE};
 
@@ -23,7 +23,7 @@ pub fn least(a: usize, b: usize) -> usize
 // How many vertices stand in row d.
 pub fn size(rows: &[i32], d: usize) -> usize
     requires { length rows.now ≡ all_rows }
-    ensures { result ≤ mostVertices }
+    ensures { result ≤ most_vertices }
 {
     if d < ROWS {
         return least(
@@ -43,7 +43,7 @@ pub fn wrapped(i: usize, n: usize) -> usize
 
 // The index t after i in a ring of n, and 0 in an empty one.
 pub fn around(n: usize, i: usize, t: usize) -> usize
-    requires { n ≤ mostVertices }
+    requires { n ≤ most_vertices }
     ensures { result ≤ n }
 {
     if n == 0 {
@@ -54,7 +54,7 @@ pub fn around(n: usize, i: usize, t: usize) -> usize
 
 // The index t before i in a ring of n, and 0 in an empty one.
 pub fn before(n: usize, i: usize, t: usize) -> usize
-    requires { n ≤ mostVertices }
+    requires { n ≤ most_vertices }
     ensures { result ≤ n }
 {
     if n == 0 {

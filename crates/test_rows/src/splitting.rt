@@ -1,6 +1,6 @@
 // Splitting: both pieces are built vertex by vertex, piece two in its own row, piece one in the spare row.
 ghost use Rattle.std.specs.Prelude.{◌≡◌, ◌≤◌, length};
-ghost use Rattle.test_rows.specs.Shape.{all_rows, mostVertices};
+ghost use Rattle.test_rows.specs.Shape.{all_rows, most_vertices};
 
 use crate::{FEWEST_VERTICES, MOST_VERTICES, NUMBERS, SPARE, Told, row};
 
@@ -33,7 +33,7 @@ pub fn in_use(rows: &[i32]) -> InUse
 // How many vertices district d has: 0 for a number that is unused or above 63.
 pub fn vertices_of(rows: &[i32], d: usize) -> usize
     requires { length rows.now ≡ all_rows }
-    ensures { result ≤ mostVertices }
+    ensures { result ≤ most_vertices }
 {
     if d < NUMBERS {
         return row::size(rows, d);
@@ -44,7 +44,7 @@ pub fn vertices_of(rows: &[i32], d: usize) -> usize
 // The refusals of a split whose numbers and path are right: every point of the path comes twice, and so do the vertices i and j.
 fn pieces(rows: &[i32], n: usize, i: usize, j: usize, k: usize) -> Told
     requires rows_len { length rows.now ≡ all_rows }
-    requires n_le_most_vertices { n ≤ mostVertices }
+    requires n_le_most_vertices { n ≤ most_vertices }
 {
     let shorter = row::least(row::before(n, j, i), row::before(n, i, j)) + 1;
     if shorter + row::least(k, FEWEST_VERTICES) < FEWEST_VERTICES {

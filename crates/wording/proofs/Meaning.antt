@@ -6,7 +6,7 @@ use native.Mathlib.Omega.{arith}
 use mathlib.Core.Path.{◌≡◌, sym, ap, ◌∙◌, subst}
 use mathlib.Core.List.{List, [], ◌∷◌}
 use lib.ListN.{length, get_or}
-use Rattle.wording.specs.Text.{digit, spelled, decimal, valueFrom, value_of}
+use Rattle.wording.specs.Text.{digit, spelled, decimal, value_from, value_of}
 use Rattle.wording.proofs.Decimals.{tens, last-digit, one-digit}
 
 -- every character is that of a digit
@@ -28,16 +28,16 @@ spelled-digits (suc most) n rest ds = elim (dec_lt n 10) [
 pub only-digits : (n : ℕ) → Digits (decimal n)
 only-digits n = spelled-digits 20 n [] (λ k b. absurd (let f : ⊥ = omega arith in f))
 
-value-spelled : (most n : ℕ) (rest : List ℕ) → n < tens most → valueFrom 0 (spelled most n rest) ≡ valueFrom n rest
-unfolding spelled valueFrom
-value-spelled zero n rest h = ap (λ k. valueFrom k rest) (let e : 0 ≡ n = omega arith in e)
+value-spelled : (most n : ℕ) (rest : List ℕ) → n < tens most → value_from 0 (spelled most n rest) ≡ value_from n rest
+unfolding spelled value_from
+value-spelled zero n rest h = ap (λ k. value_from k rest) (let e : 0 ≡ n = omega arith in e)
 value-spelled (suc most) n rest h = elim (dec_lt n 10) [
-  | yes a ↦ ap (valueFrom 0) (last-digit most n rest (omega arith)) ∙ ap (λ k. valueFrom k rest) (let e : 10 * 0 + (digit n - digit 0) ≡ n = omega arith in e)
-  | no b ↦ ap (valueFrom 0) (one-digit most n rest (omega arith)) ∙ value-spelled most (n / 10) (digit (n % 10) ∷ rest) (omega arith) ∙ ap (λ k. valueFrom k rest) (let e : 10 * (n / 10) + (digit (n % 10) - digit 0) ≡ n = omega arith in e)
+  | yes a ↦ ap (value_from 0) (last-digit most n rest (omega arith)) ∙ ap (λ k. value_from k rest) (let e : 10 * 0 + (digit n - digit 0) ≡ n = omega arith in e)
+  | no b ↦ ap (value_from 0) (one-digit most n rest (omega arith)) ∙ value-spelled most (n / 10) (digit (n % 10) ∷ rest) (omega arith) ∙ ap (λ k. value_from k rest) (let e : 10 * (n / 10) + (digit (n % 10) - digit 0) ≡ n = omega arith in e)
 ]
 
 pub reads-back : (n : ℕ) → n < tens 20 → value_of (decimal n) ≡ n
-unfolding valueFrom
+unfolding value_from
 reads-back n h = value-spelled 20 n [] h
 
 last-zero : (most n : ℕ) (rest cs : List ℕ) → n ≤ 9 → spelled (suc most) n rest ≡ digit 0 ∷ cs → n ≡ 0

@@ -12,10 +12,10 @@ use Rattle.ring.specs.Locate.{Touch, vertex, edge}
 use Rattle.ring.proofs.Pick.{pick_true, pick-false}
 use Rattle.districts.specs.Answers.{Belongs, border, one, none, several}
 use Rattle.wording.specs.Text.{ascii, decimal, Laid}
-use Rattle.wording.specs.Lines.{Kind, outline, split, merge, report, broken, Said, ok, okWith, sorted, refused, kindText, touchText, belongsText, saidText, line, endLine, room, Written}
+use Rattle.wording.specs.Lines.{Kind, outline, split, merge, report, broken, Said, ok, ok_with, sorted, refused, kind_text, touch_text, belongs_text, said_text, line, end_line, room, Written}
 use Rattle.wording.proofs.Decimals.{decimal-short, word-short}
 
-pub kind-short : (k : Kind) → length (kindText k) ≤ 28
+pub kind-short : (k : Kind) → length (kind_text k) ≤ 28
 unfolding ascii
 kind-short outline = omega arith
 kind-short split = omega arith
@@ -30,22 +30,22 @@ pair-short word n m =
     let first = word ++ decimal n in
     omega (arith, word-short word n, length-append first (ascii " "), word-short (first ++ ascii " ") m)
 
-touch-short : (t : Touch) → length (touchText t) ≤ 49
+touch-short : (t : Touch) → length (touch_text t) ≤ 49
 unfolding ascii
 touch-short (vertex i j) = omega (arith, pair-short (ascii " vertex ") i j)
 touch-short (edge i j) = omega (arith, pair-short (ascii " edge ") i j)
 
-belongs-short : (b : Belongs) → length (belongsText b) ≤ 77
+belongs-short : (b : Belongs) → length (belongs_text b) ≤ 77
 unfolding ascii
-belongs-short (border d t) = omega (arith, length-append (ascii " border " ++ decimal d) (touchText t), word-short (ascii " border ") d, touch-short t)
+belongs-short (border d t) = omega (arith, length-append (ascii " border " ++ decimal d) (touch_text t), word-short (ascii " border ") d, touch-short t)
 belongs-short (one d) = omega (arith, word-short (ascii " one ") d)
 belongs-short none = omega arith
 belongs-short (several d n) = omega (arith, pair-short (ascii " several ") d n)
 
-pub said-short : (s : Said) → length (saidText s) ≤ 77
+pub said-short : (s : Said) → length (said_text s) ≤ 77
 unfolding ascii
 said-short ok = omega arith
-said-short (okWith d) = omega (arith, word-short (ascii " ok ") d)
+said-short (ok_with d) = omega (arith, word-short (ascii " ok ") d)
 said-short (sorted b) = belongs-short b
 said-short (refused n) = omega (arith, word-short (ascii " refused ") n)
 
@@ -64,10 +64,10 @@ not_written text before h = record { answered = sym (pick_true (lt-ltb (length b
 pub line-short : (n : ℕ) (k : Kind) (s : Said) → length (line n k s) < room
 unfolding ascii
 line-short n k s =
-    let first = decimal n ++ kindText k in
-    omega (arith, length-append (decimal n) (kindText k), length-append first (saidText s), length-append (first ++ saidText s) (ascii "\n"), decimal-short n, kind-short k, said-short s)
+    let first = decimal n ++ kind_text k in
+    omega (arith, length-append (decimal n) (kind_text k), length-append first (said_text s), length-append (first ++ said_text s) (ascii "\n"), decimal-short n, kind-short k, said-short s)
 
-pub end_short : (records ones borders nones severals : ℕ) → length (endLine records ones borders nones severals) < room
+pub end_short : (records ones borders nones severals : ℕ) → length (end_line records ones borders nones severals) < room
 unfolding ascii
 end_short records ones borders nones severals =
     let first = ascii "end " ++ decimal records in

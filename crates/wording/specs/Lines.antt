@@ -18,41 +18,41 @@ pub data Kind : Type 0 where
 -- an answer: done, done with a district's number, where a report belongs, or a refusal's number
 pub data Said : Type 0 where
   ok : Said
-  okWith : ℕ → Said
+  ok_with : ℕ → Said
   sorted : Belongs → Said
   refused : ℕ → Said
 
-abbrev pub kindText : Kind → List ℕ
-kindText outline = ascii " outline"
-kindText split = ascii " split"
-kindText merge = ascii " merge"
-kindText (report r) = ascii " report " ++ decimal r
-kindText broken = ascii " record"
+abbrev pub kind_text : Kind → List ℕ
+kind_text outline = ascii " outline"
+kind_text split = ascii " split"
+kind_text merge = ascii " merge"
+kind_text (report r) = ascii " report " ++ decimal r
+kind_text broken = ascii " record"
 
 -- where on a ring: the lowest index and the highest
-abbrev pub touchText : Touch → List ℕ
-touchText (vertex i j) = ascii " vertex " ++ decimal i ++ ascii " " ++ decimal j
-touchText (edge i j) = ascii " edge " ++ decimal i ++ ascii " " ++ decimal j
+abbrev pub touch_text : Touch → List ℕ
+touch_text (vertex i j) = ascii " vertex " ++ decimal i ++ ascii " " ++ decimal j
+touch_text (edge i j) = ascii " edge " ++ decimal i ++ ascii " " ++ decimal j
 
-abbrev pub belongsText : Belongs → List ℕ
-belongsText (border d t) = ascii " border " ++ decimal d ++ touchText t
-belongsText (one d) = ascii " one " ++ decimal d
-belongsText none = ascii " none"
-belongsText (several d n) = ascii " several " ++ decimal d ++ ascii " " ++ decimal n
+abbrev pub belongs_text : Belongs → List ℕ
+belongs_text (border d t) = ascii " border " ++ decimal d ++ touch_text t
+belongs_text (one d) = ascii " one " ++ decimal d
+belongs_text none = ascii " none"
+belongs_text (several d n) = ascii " several " ++ decimal d ++ ascii " " ++ decimal n
 
-abbrev pub saidText : Said → List ℕ
-saidText ok = ascii " ok"
-saidText (okWith d) = ascii " ok " ++ decimal d
-saidText (sorted b) = belongsText b
-saidText (refused n) = ascii " refused " ++ decimal n
+abbrev pub said_text : Said → List ℕ
+said_text ok = ascii " ok"
+said_text (ok_with d) = ascii " ok " ++ decimal d
+said_text (sorted b) = belongs_text b
+said_text (refused n) = ascii " refused " ++ decimal n
 
 -- the record's number, its kind, and the answer
 abbrev pub line : ℕ → Kind → Said → List ℕ
-line n k s = decimal n ++ kindText k ++ saidText s ++ ascii "\n"
+line n k s = decimal n ++ kind_text k ++ said_text s ++ ascii "\n"
 
 -- the records read, and the tally with the 64 counts of One summed
-abbrev pub endLine : ℕ → ℕ → ℕ → ℕ → ℕ → List ℕ
-endLine records ones borders nones severals =
+abbrev pub end_line : ℕ → ℕ → ℕ → ℕ → ℕ → List ℕ
+end_line records ones borders nones severals =
     ascii "end " ++ decimal records ++ ascii " one " ++ decimal ones ++ ascii " border " ++ decimal borders ++ ascii " none " ++ decimal nones ++ ascii " several " ++ decimal severals ++ ascii "\n"
 
 -- how many places a list must have to be lent for a line; no line has as many
@@ -73,6 +73,6 @@ kind_of Broken = broken
 
 abbrev pub said_of : CodeSaid.Said → Said
 said_of Ok = ok
-said_of (OkWith d) = okWith d
+said_of (OkWith d) = ok_with d
 said_of (Sorted c) = sorted (belongs c)
 said_of (Refused n) = refused n

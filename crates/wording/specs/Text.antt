@@ -1,12 +1,12 @@
 -- Words and numbers as bytes, and bytes laid over a lent list. Assumes nothing.
 use Rattle.std.specs.Prelude.{ℕ, zero, suc, ◌+◌, ◌*◌, ◌-◌, ◌/◌, ◌%◌, ◌≡◌, List, [], ◌∷◌, ◌++◌, ltb, length, take, drop}
 use Prim.Native.Char.{code}
-use Prim.Native.String.{String, [] as noText, ◌∷◌ as ◌then◌}
+use Prim.Native.String.{String, [] as no_text, ◌∷◌ as ◌then◌}
 use Rattle.ring.specs.Choices.{pick}
 
 -- the characters of a text; all of ours are ASCII, one byte each
 unfoldable pub ascii : String → List ℕ
-ascii noText = []
+ascii no_text = []
 ascii (c then s) = code c ∷ ascii s
 
 -- the character of a digit; that of 0 is 48
@@ -23,12 +23,12 @@ abbrev pub decimal : ℕ → List ℕ
 decimal n = spelled 20 n []
 
 -- the number that digits make, the first one counting most, behind one that is read already
-unfoldable pub valueFrom : ℕ → List ℕ → ℕ
-valueFrom n [] = n
-valueFrom n (c ∷ cs) = valueFrom (10 * n + (c - digit 0)) cs
+unfoldable pub value_from : ℕ → List ℕ → ℕ
+value_from n [] = n
+value_from n (c ∷ cs) = value_from (10 * n + (c - digit 0)) cs
 
 abbrev pub value_of : List ℕ → ℕ
-value_of cs = valueFrom 0 cs
+value_of cs = value_from 0 cs
 
 -- a list that holds a text from a place on, and elsewhere what it held
 abbrev pub laid : ℕ → List ℕ → List ℕ → List ℕ

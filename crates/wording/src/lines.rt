@@ -4,7 +4,7 @@ ghost use Rattle.ring.specs.Locate.{touch_of};
 ghost use Rattle.districts.specs.Answers as Answers;
 ghost use Rattle.districts.specs.Answers.{belongs};
 ghost use Rattle.wording.specs.Text.{Laid};
-ghost use Rattle.wording.specs.Lines.{kindText, touchText, belongsText, saidText, line as line_of, endLine, room, Written, kind_of, said_of};
+ghost use Rattle.wording.specs.Lines.{kind_text, touch_text, belongs_text, said_text, line as line_of, end_line, room, Written, kind_of, said_of};
 
 use crate::{Kind, Said, text};
 use districts::Class;
@@ -16,7 +16,7 @@ pub const ROOM: usize = 160;
 // Twenty digits and the longest word: " report ".
 fn kind(to: &mut [u8], at: usize, k: Kind) -> usize
     requires { at + 28 ≤ length to.old }
-    ensures { Laid result at (kindText (kind_of k)) to.old to.new }
+    ensures { Laid result at (kind_text (kind_of k)) to.old to.new }
 {
     match k {
         Kind::Outline => text::put(to, at, b" outline"),
@@ -30,7 +30,7 @@ fn kind(to: &mut [u8], at: usize, k: Kind) -> usize
 // Twice twenty digits, a space and the longer word: " vertex ".
 fn touched(to: &mut [u8], at: usize, t: Touch) -> usize
     requires { at + 49 ≤ length to.old }
-    ensures { Laid result at (touchText (touch_of t)) to.old to.new }
+    ensures { Laid result at (touch_text (touch_of t)) to.old to.new }
 {
     match t {
         Touch::Vertex(i, j) => text::paired(to, at, b" vertex ", i as u64, j as u64),
@@ -40,7 +40,7 @@ fn touched(to: &mut [u8], at: usize, t: Touch) -> usize
 
 fn border(to: &mut [u8], at: usize, d: usize, t: Touch) -> usize
     requires { at + 77 ≤ length to.old }
-    ensures { Laid result at (belongsText (Answers.border d (touch_of t))) to.old to.new }
+    ensures { Laid result at (belongs_text (Answers.border d (touch_of t))) to.old to.new }
 {
     let next = text::worded(to, at, b" border ", d as u64);
     touched(to, next, t)
@@ -49,7 +49,7 @@ fn border(to: &mut [u8], at: usize, d: usize, t: Touch) -> usize
 // No class takes more than a border does.
 fn class(to: &mut [u8], at: usize, c: Class) -> usize
     requires { at + 77 ≤ length to.old }
-    ensures { Laid result at (belongsText (belongs c)) to.old to.new }
+    ensures { Laid result at (belongs_text (belongs c)) to.old to.new }
 {
     match c {
         Class::Border(d, t) => border(to, at, d, t),
@@ -61,7 +61,7 @@ fn class(to: &mut [u8], at: usize, c: Class) -> usize
 
 fn said(to: &mut [u8], at: usize, s: Said) -> usize
     requires { at + 77 ≤ length to.old }
-    ensures { Laid result at (saidText (said_of s)) to.old to.new }
+    ensures { Laid result at (said_text (said_of s)) to.old to.new }
 {
     match s {
         Said::Ok => text::put(to, at, b" ok"),
@@ -101,7 +101,7 @@ pub fn end_line(
     none: u32,
     several: u32,
 ) -> usize
-    ensures { Written result (endLine records ones border none several) to.old to.new }
+    ensures { Written result (end_line records ones border none several) to.old to.new }
 {
     if to.len() < ROOM {
         return 0;

@@ -1,12 +1,12 @@
 // Words and numbers, laid over a lent list from a place on; each function answers the place behind what it wrote.
 ghost use Rattle.std.specs.Prelude.{◌≡◌, ◌+◌, ◌≤◌, ◌<◌, ◌++◌, length, drop};
-ghost use Rattle.wording.specs.Text.{digit as digitOf, ascii, decimal, Laid};
+ghost use Rattle.wording.specs.Text.{digit as digit_of, ascii, decimal, Laid};
 
 const DIGITS: usize = 20;
 
 fn digit(n: u64) -> u8
     requires { n < 10 }
-    ensures { result ≡ digitOf n }
+    ensures { result ≡ digit_of n }
 {
     b'0' + n as u8
 }

@@ -7,8 +7,8 @@ use lib.ListN.{take, drop}
 use borrow.Author.Rules.{rules}
 use Rattle.ring.specs.Columns.{points}
 use Rattle.areas.specs.declared.Lying.{Lying}
-use Rattle.areas.specs.Areas.{liesFrom, lieOf}
-use Rattle.areas.specs.Lengths.{mostRings}
+use Rattle.areas.specs.Areas.{lies_from, lie_of}
+use Rattle.areas.specs.Lengths.{most_rings}
 use Rattle.areas.proofs.Past.{Past, past-none, past_all, Read, past_end, next-least, next-inside, next-few, past-on, past_more}
 use Rattle.areas.proofs.locate_on.Statement.{statement}
 use Rattle.areas.proofs.locate_on.Tie as tie
@@ -17,7 +17,7 @@ abbrev invariant-loop : tie.invariant-loop
 invariant-loop xs ys sizes r about₀ at₀ k₀ about at k = Past xs ys sizes r about.0 at k
 
 abbrev decreases-loop : tie.decreases-loop
-decreases-loop xs ys sizes r about₀ at₀ k₀ about at k = mostRings - k
+decreases-loop xs ys sizes r about₀ at₀ k₀ about at k = most_rings - k
 
 loop-holds : tie.Need-loop-init invariant-loop decreases-loop
 loop-holds c = let s = c.before in past-none s.args.xs.now s.args.ys.now s.args.sizes.now s.args.r s.requires
@@ -53,8 +53,8 @@ enum-known-ring : tie.Need-enum-known-ring invariant-loop decreases-loop
 enum-known-ring c = search rules
 
 -- what the next ring alone says
-said : (c : tie.After-next-ring invariant-loop decreases-loop) (l : Lying) → c.next-ring.result ≡ l → let size = c.before.before in let a = (start size).args in let passed = (turn size).loop in liesFrom passed.k passed.about.0 (take size.wide.result (drop passed.at (points a.xs.now a.ys.now)) ∷ []) a.r ≡ lieOf l
-said c l e = sym c.next-ring.ensures ∙ ap lieOf e
+said : (c : tie.After-next-ring invariant-loop decreases-loop) (l : Lying) → c.next-ring.result ≡ l → let size = c.before.before in let a = (start size).args in let passed = (turn size).loop in lies_from passed.k passed.about.0 (take size.wide.result (drop passed.at (points a.xs.now a.ys.now)) ∷ []) a.r ≡ lie_of l
+said c l e = sym c.next-ring.ensures ∙ ap lie_of e
 
 returns-2 : tie.Need-returns-2 invariant-loop decreases-loop
 returns-2 c =

@@ -8,7 +8,7 @@ use lib.ListN.{take, drop}
 use Rattle.ring.specs.declared.Located.{Located}
 use Rattle.ring.specs.Columns.{points}
 use Rattle.ring.specs.Locate.{place_of}
-use Rattle.areas.specs.Areas.{off, afterRing, liesFrom}
+use Rattle.areas.specs.Areas.{off, after_ring, lies_from}
 use Rattle.areas.proofs.Past.{ring-ready, ring-lies, ring-few}
 use Rattle.areas.proofs.next_ring.Statement.{statement}
 use Rattle.areas.proofs.next_ring.Tie as tie
@@ -64,7 +64,7 @@ enum_told : tie.Need-enum-told
 enum_told c = search rules
 
 -- by what locating answered
-by : (c : tie.After-locate-on) (l : Located) → c.locate-on.result ≡ l → let a = c.before.before.before.args in afterRing a.k a.about.0 (place_of l) off ≡ liesFrom a.k a.about.0 (take a.n (drop a.at (points a.xs.now a.ys.now)) ∷ []) a.r
+by : (c : tie.After-locate-on) (l : Located) → c.locate-on.result ≡ l → let a = c.before.before.before.args in after_ring a.k a.about.0 (place_of l) off ≡ lies_from a.k a.about.0 (take a.n (drop a.at (points a.xs.now a.ys.now)) ∷ []) a.r
 by c l e =
     let s = c.before.before.before in
     let a = s.args in

@@ -6,7 +6,7 @@ use mathlib.Core.Path.{◌≡◌, sym, subst, ◌∙◌}
 use lib.ListN.{length, take}
 use borrow.Author.Rules.{rules}
 use Rattle.ring.specs.Columns.{points}
-use Rattle.ring.specs.Walk.{head_of, metAt}
+use Rattle.ring.specs.Walk.{head_of, met_at}
 use Rattle.ring.proofs.Settled.{part-whole, clear-off, settled}
 use Rattle.columns.specs.Walk.{Ready}
 use Rattle.ring.proofs.Columns.{length-points}
@@ -62,7 +62,7 @@ returns c =
     let counted = widened.before.before.before.before.before in
     let start = counted.before in
     let P = points start.args.xs.now start.args.ys.now in
-    let met : c.before.find.result ≡ metAt P start.args.r (length start.args.xs.now) = c.before.find.ensures ∙ (λ i. metAt (points (whole-x start i) (whole-y start i)) (widened.wide.ensures i) (length (whole-x start i))) in
+    let met : c.before.find.result ≡ met_at P start.args.r (length start.args.xs.now) = c.before.find.ensures ∙ (λ i. met_at (points (whole-x start i) (whole-y start i)) (widened.wide.ensures i) (length (whole-x start i))) in
     c.found.ensures ∙ settled P start.args.r counted.around.result counted.around.ensures (length start.args.xs.now) c.before.find.result (size start) met
 
 off-requires : tie.Need-off-requires

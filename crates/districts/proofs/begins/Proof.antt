@@ -6,7 +6,7 @@ use lib.Dec.{eqb}
 use borrow.Author.Tests.{eq-eqb, ne_eqb, not-false}
 use Rattle.ring.specs.declared.Point.{Point}
 use Rattle.refusals.proofs.Verdicts.{stops_at, passes, passed-all}
-use Rattle.districts.specs.Register.{inUse}
+use Rattle.districts.specs.Register.{in_use}
 use Rattle.districts.specs.Lists.{meaning}
 use Rattle.districts.proofs.Lent.{no-outline}
 use Rattle.districts.proofs.begins.Statement.{statement}
@@ -18,7 +18,7 @@ returns c outline store = sym (stops_at 1 _ _ c.if1.true)
 outline-size-requires : tie.Need-outline-size-requires
 outline-size-requires c κs = c.before.before.requires (not-false _ c.if1.false)
 
-outlined : (c : tie.After-outline-size) (b : Bool) → eqb c.outline-size.result 0 ≡ b → (outline store : List Point) → not (inUse (meaning outline store c.before.before.before.args.runs.now).outline) ≡ b
+outlined : (c : tie.After-outline-size) (b : Bool) → eqb c.outline-size.result 0 ≡ b → (outline store : List Point) → not (in_use (meaning outline store c.before.before.before.args.runs.now).outline) ≡ b
 outlined c b e outline store = no-outline outline store c.before.before.before.args.runs.now ∙ ap (λ n. eqb n 0) (sym c.outline-size.ensures.0) ∙ e
 
 returns-2 : tie.Need-returns-2

@@ -12,25 +12,25 @@ use mir.Syntax.{w32}
 use mir.Val.{SFits}
 use mir.Facts.{to_z-of_z}
 use borrow.Author.Rules.{rules}
-use Rattle.ring.specs.Grid.{beyond, someBeyond}
+use Rattle.ring.specs.Grid.{beyond, some_beyond}
 use Rattle.districts.specs.WellFormed.{within}
 use Rattle.districts.proofs.on_grid.Statement.{statement}
 use Rattle.districts.proofs.on_grid.Tie as tie
 
-last-beyond : (xs : List ℤ) (x : ℤ) → someBeyond (xs ++ (x ∷ [])) ≡ (someBeyond xs || beyond x)
+last-beyond : (xs : List ℤ) (x : ℤ) → some_beyond (xs ++ (x ∷ [])) ≡ (some_beyond xs || beyond x)
 last-beyond [] x = none (beyond x)
   where
     none : (b : Bool) → (b || false) ≡ b
     none true = refl
     none false = refl
-last-beyond (y ∷ xs) x = ap (λ (b : Bool). beyond y || b) (last-beyond xs x) ∙ moved (beyond y) (someBeyond xs) (beyond x)
+last-beyond (y ∷ xs) x = ap (λ (b : Bool). beyond y || b) (last-beyond xs x) ∙ moved (beyond y) (some_beyond xs) (beyond x)
   where
     moved : (a b c : Bool) → (a || (b || c)) ≡ ((a || b) || c)
     moved true b c = refl
     moved false b c = refl
 
-one_more : (xs : List ℤ) (i : ℕ) → i < length xs → someBeyond (take (i + 1) xs) ≡ (someBeyond (take i xs) || beyond (get_or xs i (pos 0)))
-one_more xs i h = ap (λ k. someBeyond (take k xs)) (add-one i) ∙ ap someBeyond (take-suc xs i (pos 0) h) ∙ last-beyond (take i xs) (get_or xs i (pos 0))
+one_more : (xs : List ℤ) (i : ℕ) → i < length xs → some_beyond (take (i + 1) xs) ≡ (some_beyond (take i xs) || beyond (get_or xs i (pos 0)))
+one_more xs i h = ap (λ k. some_beyond (take k xs)) (add-one i) ∙ ap some_beyond (take-suc xs i (pos 0) h) ∙ last-beyond (take i xs) (get_or xs i (pos 0))
 
 neither : (a b p q : Bool) → ((not a && not b) && not (p || q)) ≡ (not (a || p) && not (b || q))
 neither true b p q = refl
@@ -41,7 +41,7 @@ neither false false false q = refl
 
 within_more : (xs ys : List ℤ) (i : ℕ) → i < length xs → i < length ys → (within xs ys i && not (beyond (get_or xs i (pos 0)) || beyond (get_or ys i (pos 0)))) ≡ within xs ys (i + 1)
 within_more xs ys i h k =
-    neither (someBeyond (take i xs)) (someBeyond (take i ys)) (beyond (get_or xs i (pos 0))) (beyond (get_or ys i (pos 0)))
+    neither (some_beyond (take i xs)) (some_beyond (take i ys)) (beyond (get_or xs i (pos 0))) (beyond (get_or ys i (pos 0)))
     ∙ sym (λ t. not (one_more xs i h t) && not (one_more ys i k t))
 
 abbrev invariant-loop : tie.invariant-loop

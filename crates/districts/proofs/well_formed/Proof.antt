@@ -6,8 +6,8 @@ use mathlib.Core.Bool.{true, ◌&&◌}
 use lib.ListN.{length}
 use borrow.Author.Rules.{rules}
 use borrow.Author.Tests.{not-true, not-false}
-use Rattle.districts.specs.Lists.{outlineSize}
-use Rattle.districts.specs.WellFormed.{shaped, total, counted, within, wellFormed}
+use Rattle.districts.specs.Lists.{outline_size}
+use Rattle.districts.specs.WellFormed.{shaped, total, counted, within, well_formed}
 use Rattle.districts.specs.Lent.{Lists, lent}
 use Rattle.districts.proofs.Sound.{size-most, outline-sized, total-most, shape-told}
 use Rattle.districts.proofs.Tests.{stops, goes_on}
@@ -18,7 +18,7 @@ shaped-requires : tie.Need-shaped-requires
 shaped-requires c κs = search rules
 
 returns : tie.Need-returns
-unfolding wellFormed
+unfolding well_formed
 returns c = sym (stops (sym c.before.shaped.ensures ∙ not-true _ c.if1.true) _)
 
 -- what each test that passed tells
@@ -44,7 +44,7 @@ counted-requires : tie.Need-counted-requires
 counted-requires c κs = (runs-length c.before, c.total.ensures)
 
 returns-2 : tie.Need-returns-2
-unfolding wellFormed
+unfolding well_formed
 returns-2 c = sym (goes_on (right-shape c.before.before.before) _ ∙ stops (sym c.before.counted.ensures ∙ not-true _ c.if2.true) _)
 
 right-counts : (c : tie.Else2) → counted c.before.before.before.before.before.before.args.runs.now ≡ true
@@ -58,7 +58,7 @@ packed-requires c κs =
     (runs-length c.before.before.before, (all, omega arith))
 
 returns-3 : tie.Need-returns-3
-unfolding wellFormed
+unfolding well_formed
 returns-3 c =
     let second = c.before.before in
     sym (goes_on (right-shape second.before.before.before) _ ∙ goes_on (right-counts second) _ ∙ stops (sym c.before.packed.ensures ∙ not-true _ c.if3.true) _)
@@ -70,8 +70,8 @@ on-grid-requires : tie.Need-on-grid-requires
 on-grid-requires c κs =
     let second = c.before.before.before in
     let first = second.before.before.before in
-    let n : c.outline-size.result ≡ outlineSize (start first).args.runs.now = c.outline-size.ensures.0 in
-    let few : outlineSize (start first).args.runs.now ≤ 2048 = size-most _ (outline-sized (start first).args.runs.now (right-counts second)) in
+    let n : c.outline-size.result ≡ outline_size (start first).args.runs.now = c.outline-size.ensures.0 in
+    let few : outline_size (start first).args.runs.now ≤ 2048 = size-most _ (outline-sized (start first).args.runs.now (right-counts second)) in
     (omega (arith, n, few, (lengths first).0.0), omega (arith, n, few, (lengths first).0.1))
 
 on-grid-requires-2 : tie.Need-on-grid-requires-2
@@ -83,7 +83,7 @@ on-grid-requires-2 c κs =
     (omega (arith, all, most, (lengths first).1.0), omega (arith, all, most, (lengths first).1.1))
 
 returns-4 : tie.Need-returns-4
-unfolding wellFormed
+unfolding well_formed
 returns-4 c =
     let third = c.before.before.before in
     let second = third.before.before in

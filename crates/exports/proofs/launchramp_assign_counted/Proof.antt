@@ -2,7 +2,7 @@
 use mathlib.Core.Path.{sym, ap}
 use mir.Facts.{to_z-of_z}
 use borrow.Author.Rules.{rules}
-use Rattle.codes.specs.Codes.{answerCode}
+use Rattle.codes.specs.Codes.{answer_code}
 use Rattle.codes.proofs.Values.{tells_as}
 use Rattle.codes.proofs.Places.{counted-as}
 use Rattle.exports.proofs.launchramp_assign_counted.Statement.{statement}
@@ -24,7 +24,7 @@ returns c =
     let start = assigns.before.before in
     let is = simp (to_z-of_z start.ranges.x, to_z-of_z start.ranges.y) at assigns.assign.ensures in
     let by = counted-as (sym is) counts.counted.ensures in
-    record { tells = tells_as (ap answerCode by.answer) c.assigned.ensures; tally = by.tally }
+    record { tells = tells_as (ap answer_code by.answer) c.assigned.ensures; tally = by.tally }
 
 pub launchramp-assign-counted-spec : {M : Type 1} → statement M
 launchramp-assign-counted-spec =

@@ -1,7 +1,7 @@
 -- `exports::launchramp_assign_fix_counted` meets its contract. Assumes nothing.
 use mathlib.Core.Path.{sym, ap}
 use borrow.Author.Rules.{rules}
-use Rattle.codes.specs.Codes.{answerCode}
+use Rattle.codes.specs.Codes.{answer_code}
 use Rattle.codes.proofs.Values.{tells_as}
 use Rattle.codes.proofs.Places.{counted-as}
 use Rattle.exports.proofs.launchramp_assign_fix_counted.Statement.{statement}
@@ -20,7 +20,7 @@ returns : tie.Need-returns
 returns c =
     let counts = c.before.before in
     let by = counted-as (sym counts.before.before.assign-at.ensures) counts.counted.ensures in
-    record { tells = tells_as (ap answerCode by.answer) c.assigned.ensures; tally = by.tally }
+    record { tells = tells_as (ap answer_code by.answer) c.assigned.ensures; tally = by.tally }
 
 pub launchramp-assign-fix-counted-spec : {M : Type 1} → statement M
 launchramp-assign-fix-counted-spec =

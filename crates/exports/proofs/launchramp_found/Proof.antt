@@ -3,7 +3,7 @@ use mathlib.Core.Path.{ap, subst}
 use borrow.Author.Rules.{rules}
 use Rattle.register.specs.Founding.{founded}
 use Rattle.districts.specs.Lent.{lent, Leaves}
-use Rattle.codes.specs.Codes.{verdictCode}
+use Rattle.codes.specs.Codes.{verdict_code}
 use Rattle.codes.proofs.Values.{tells_as}
 use Rattle.exports.proofs.launchramp_found.Statement.{statement}
 use Rattle.exports.proofs.launchramp_found.Tie as tie
@@ -37,7 +37,7 @@ returns c =
     let out = called.found.new in
     let before = lent a.ox.now a.oy.now a.sx.now a.sy.now a.runs.now in
     let after = lent out.0 out.1.0 out.1.1.0 out.1.1.1.0 out.1.1.1.1.0 in
-    record { tells = tells_as (ap verdictCode by.said) c.founded.ensures; left = subst (λ v. Leaves v (founded a.ring.now) before after) by.said by.left }
+    record { tells = tells_as (ap verdict_code by.said) c.founded.ensures; left = subst (λ v. Leaves v (founded a.ring.now) before after) by.said by.left }
 
 pub launchramp-found-spec : {M : Type 1} → statement M
 launchramp-found-spec =

@@ -1,7 +1,7 @@
 -- `exports::launchramp_merge` meets its contract. Assumes nothing.
 use mathlib.Core.Path.{ap}
 use borrow.Author.Rules.{rules}
-use Rattle.codes.specs.Codes.{changeCode}
+use Rattle.codes.specs.Codes.{change_code}
 use Rattle.codes.proofs.Values.{tells_as}
 use Rattle.exports.proofs.launchramp_merge.Statement.{statement}
 use Rattle.exports.proofs.launchramp_merge.Tie as tie
@@ -24,7 +24,7 @@ same-length-3 c = search rules
 returns : tie.Need-returns
 returns c =
     let by = c.before.before.before.before.before.before.merge.ensures in
-    record { tells = tells_as (ap changeCode by.said) c.changed.ensures; left = by.left }
+    record { tells = tells_as (ap change_code by.said) c.changed.ensures; left = by.left }
 
 pub launchramp-merge-spec : {M : Type 1} → statement M
 launchramp-merge-spec =

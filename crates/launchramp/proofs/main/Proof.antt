@@ -1,7 +1,7 @@
 -- `launchramp::main` is safe: it starts from lists of zeros, an empty register. Assumes nothing.
 use mathlib.Core.Path.{refl}
 use borrow.Author.Rules.{rules}
-use Rattle.districts.specs.Counts.{listTo}
+use Rattle.districts.specs.Counts.{list_to}
 use Rattle.history.proofs.Fresh.{fresh-lists}
 use Rattle.launchramp.proofs.main.Statement.{statement}
 use Rattle.launchramp.proofs.main.Tie as tie
@@ -28,7 +28,7 @@ slice-aggregate-read-all-7 : tie.Need-slice-aggregate-read-all-7
 slice-aggregate-read-all-7 c = search rules
 
 read-all-requires : tie.Need-read-all-requires
-unfolding listTo
+unfolding list_to
 read-all-requires c κs = ((refl, fresh-lists _ _ _ _ (refl, refl) (refl, refl)), (refl, refl, refl, refl))
 
 slice-aggregate-close : tie.Need-slice-aggregate-close

@@ -13,12 +13,12 @@ use borrow.Author.Rules.{rules}
 use borrow.Author.Tests.{eq-eqb, ne_eqb, le-ltb}
 use Rattle.ring.specs.declared.Point.{Point}
 use Rattle.ring.specs.Grid.{point, vertices}
-use Rattle.ring.specs.Locate.{located, locatedOn}
-use Rattle.ring.specs.Walk.{head_of, Ready, Counted, metAt}
+use Rattle.ring.specs.Locate.{located, located_on}
+use Rattle.ring.specs.Walk.{head_of, Ready, Counted, met_at}
 use Rattle.ring.proofs.Vertices.{length-vertices}
 use Rattle.ring.proofs.OnGrid.{headed}
 use Rattle.ring.proofs.Settled.{part-whole, clear-off, settled}
-use Rattle.ring.proofs.Asked.{noRingOf, beyondOf, tested-beyond, located-no-ring, located-beyond, located-on, asked-ready}
+use Rattle.ring.proofs.Asked.{no_ring_of, beyond_of, tested-beyond, located-no-ring, located-beyond, located-on, asked-ready}
 use Rattle.ring.proofs.locate.Statement.{statement}
 use Rattle.ring.proofs.locate.Tie as tie
 
@@ -70,7 +70,7 @@ returns-3 c =
     located-no-ring start.args.ring.now start.args.x start.args.y (ap (λ (b : Bool). b || (ltb (m / 2) 3 || ltb 2048 (m / 2))) (eq-eqb (m % 2) 1 (omega (arith, c.if3.true))))
 
 -- the list makes a ring
-a-ring : (c : tie.Else3) → noRingOf c.before.before.before.args.ring.now c.before.before.before.args.x c.before.before.before.args.y ≡ false
+a-ring : (c : tie.Else3) → no_ring_of c.before.before.before.args.ring.now c.before.before.before.args.x c.before.before.before.args.y ≡ false
 a-ring c =
     let m = length c.before.before.before.args.ring.now in
     let (least, most) = few c.before in
@@ -86,7 +86,7 @@ beyond-requires-2 : tie.Need-beyond-requires-2
 beyond-requires-2 c κs = search rules
 
 -- the third test is the rules'
-tested : (c : tie.After-beyond2) → let start = c.before.before.before.before.before.before in beyondOf start.args.ring.now start.args.x start.args.y ≡ (c.before.before.some-beyond-short.result || (c.before.beyond.result || c.beyond2.result))
+tested : (c : tie.After-beyond2) → let start = c.before.before.before.before.before.before in beyond_of start.args.ring.now start.args.x start.args.y ≡ (c.before.before.some-beyond-short.result || (c.before.beyond.result || c.beyond2.result))
 tested c =
     let start = c.before.before.before.before.before.before in
     tested-beyond start.args.ring.now start.args.x start.args.y start.ranges.x start.ranges.y c.before.before.some-beyond-short.ensures c.before.beyond.ensures c.beyond2.ensures
@@ -105,7 +105,7 @@ ready c =
     asked-ready start.args.ring.now start.args.x start.args.y (a-ring second) (tested c.before ∙ c.if4.false)
 
 -- and where the point lies is the answer
-accepted : (c : tie.Else4) → let start = c.before.before.before.before.before.before.before in locatedOn (vertices start.args.ring.now) (point start.args.x start.args.y) ≡ located start.args.ring.now start.args.x start.args.y
+accepted : (c : tie.Else4) → let start = c.before.before.before.before.before.before.before in located_on (vertices start.args.ring.now) (point start.args.x start.args.y) ≡ located start.args.ring.now start.args.x start.args.y
 accepted c =
     let second = c.before.before.before.before in
     let start = second.before.before.before in
@@ -168,7 +168,7 @@ returns-5 c =
     let xs = start.args.ring.now in
     let n = length xs / 2 in
     let R = point start.args.x start.args.y in
-    let met : c.before.find.result ≡ metAt (vertices xs) R n = c.before.find.ensures ∙ (λ i. metAt (vertices (whole xs i)) (again widened i) n) in
+    let met : c.before.find.result ≡ met_at (vertices xs) R n = c.before.find.ensures ∙ (λ i. met_at (vertices (whole xs i)) (again widened i) n) in
     c.found.ensures ∙ settled (vertices xs) R count.each.result (counted count) n c.before.find.result (length-vertices xs n (ready passed).even) met ∙ accepted passed
 
 off-requires : tie.Need-off-requires

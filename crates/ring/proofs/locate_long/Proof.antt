@@ -4,7 +4,7 @@ use mathlib.Core.Bool.{false, ◌||◌}
 use mir.Syntax.{w32}
 use mir.Val.{SFits}
 use borrow.Author.Rules.{rules}
-use Rattle.ring.proofs.Asked.{noRingOf, beyondOf, tested-beyond, located-no-ring, located-beyond, located-on, asked-ready}
+use Rattle.ring.proofs.Asked.{no_ring_of, beyond_of, tested-beyond, located-no-ring, located-beyond, located-on, asked-ready}
 use Rattle.ring.proofs.locate_long.Statement.{statement}
 use Rattle.ring.proofs.locate_long.Tie as tie
 
@@ -26,11 +26,11 @@ beyond-requires-2 : tie.Need-beyond-requires-2
 beyond-requires-2 c κs = search rules
 
 -- the first test is the rules'
-a-ring : (c : tie.Else1) → noRingOf c.before.before.args.ring.now c.before.before.args.r.x c.before.before.args.r.y ≡ false
+a-ring : (c : tie.Else1) → no_ring_of c.before.before.args.ring.now c.before.before.args.r.x c.before.before.args.r.y ≡ false
 a-ring c = sym c.before.no-ring.ensures ∙ c.if1.false
 
 -- and so is the second
-tested : (c : tie.After-beyond2) → let start = c.before.before.before.before.before.before.before in beyondOf start.args.ring.now start.args.r.x start.args.r.y ≡ (c.before.before.before.before.some-beyond.result || (c.before.before.beyond.result || c.beyond2.result))
+tested : (c : tie.After-beyond2) → let start = c.before.before.before.before.before.before.before in beyond_of start.args.ring.now start.args.r.x start.args.r.y ≡ (c.before.before.before.before.some-beyond.result || (c.before.before.beyond.result || c.beyond2.result))
 tested c =
     let start = c.before.before.before.before.before.before.before in
     let across : SFits w32 start.args.r.x = search rules in

@@ -2,10 +2,10 @@
 use mathlib.Core.Path.{◌≡◌, sym, ap, ◌∙◌}
 use lib.ListN.{length}
 use borrow.Author.Rules.{rules}
-use Rattle.refusals.specs.Verdicts.{accept, verdict, verdictOf}
+use Rattle.refusals.specs.Verdicts.{accept, verdict, verdict_of}
 use Rattle.districts.specs.Lent.{Lists, lent, formed, means}
 use Rattle.districts.proofs.Sound.{store-lengths}
-use Rattle.judging.specs.Merging.{mergeTests}
+use Rattle.judging.specs.Merging.{merge_tests}
 use Rattle.changes.proofs.Granted.{right, joint, pair, merge-well-formed, merge-meaning}
 use Rattle.changes.proofs.Outcomes.{change-done, change-refused}
 use Rattle.changes.proofs.merging.merge_known.Statement.{statement}
@@ -18,8 +18,8 @@ abbrev start : tie.After-enum-told → tie.Start
 start c = c.before.before.before.before.before.before.before
 
 granted : (c : tie.After-enum-told) → let s = start c in
-    verdict (mergeTests (formed (lists s)) (means (lists s)) s.args.kept s.args.a s.args.gone s.args.b s.args.k) ≡ accept
-granted c = sym c.before.before.merge.ensures ∙ ap verdictOf c.enum_told.given.1
+    verdict (merge_tests (formed (lists s)) (means (lists s)) s.args.kept s.args.a s.args.gone s.args.b s.args.k) ≡ accept
+granted c = sym c.before.before.merge.ensures ∙ ap verdict_of c.enum_told.given.1
 
 merge-requires : tie.Need-merge-requires
 merge-requires c κs = search rules
@@ -77,7 +77,7 @@ returns-2 : tie.Need-returns-2
 returns-2 c =
     let told = c.before in
     let judged = told.before.before in
-    change-refused _ _ _ (lists judged.before.before.before.before.before) _ (sym judged.merge.ensures ∙ ap verdictOf told.r.given.1)
+    change-refused _ _ _ (lists judged.before.before.before.before.before) _ (sym judged.merge.ensures ∙ ap verdict_of told.r.given.1)
 
 pub merge-known-spec : {M : Type 1} → statement M
 merge-known-spec =

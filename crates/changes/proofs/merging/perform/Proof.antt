@@ -5,7 +5,7 @@ use mathlib.Core.Path.{refl, sym, subst₂, ◌∙◌}
 use lib.ListN.{length}
 use Rattle.ring.specs.Columns.{points}
 use Rattle.ring.proofs.Columns.{length-points}
-use Rattle.districts.specs.Lists.{firstPlace, size, part}
+use Rattle.districts.specs.Lists.{first_place, size, part}
 use Rattle.districts.proofs.Lent.{part_length}
 use Rattle.room.proofs.Written.{read_back}
 use Rattle.judging.specs.Merging.{merged}
@@ -73,10 +73,10 @@ returns c =
     let runs = a.runs.now in
     let p = s.requires.0.2 in
     let room = length-points a.sx.now a.sy.now (s.requires.0.0 ∙ sym s.requires.0.1) ∙ s.requires.0.0 in
-    let first : firstPlace runs a.kept + size runs a.kept ≤ length store = omega (arith, p.first-inside, p.most, room) in
-    let second : firstPlace runs a.gone + size runs a.gone ≤ length store = omega (arith, p.second-inside, p.most, room) in
-    let ring = read_back (part store (firstPlace runs a.kept) (size runs a.kept)) _ (part_length store (firstPlace runs a.kept) (size runs a.kept) first) _ _ got.copy-ring.ensures.1 _ got.copy-ring.ensures.0 in
-    let other = read_back (part store (firstPlace runs a.gone) (size runs a.gone)) _ (part_length store (firstPlace runs a.gone) (size runs a.gone) second) _ _ got₂.copy-ring2.ensures.1 _ got₂.copy-ring2.ensures.0 in
+    let first : first_place runs a.kept + size runs a.kept ≤ length store = omega (arith, p.first-inside, p.most, room) in
+    let second : first_place runs a.gone + size runs a.gone ≤ length store = omega (arith, p.second-inside, p.most, room) in
+    let ring = read_back (part store (first_place runs a.kept) (size runs a.kept)) _ (part_length store (first_place runs a.kept) (size runs a.kept) first) _ _ got.copy-ring.ensures.1 _ got.copy-ring.ensures.0 in
+    let other = read_back (part store (first_place runs a.gone) (size runs a.gone)) _ (part_length store (first_place runs a.gone) (size runs a.gone) second) _ _ got₂.copy-ring2.ensures.1 _ got₂.copy-ring2.ensures.0 in
     (refl, subst₂ (λ P Q. Joined store runs a.kept a.gone (merged P a.a Q a.b a.k) (points done.join.new.0 done.join.new.1.0) done.join.new.1.1.0) ring other done.join.ensures)
 
 pub perform-spec : {M : Type 1} → statement M

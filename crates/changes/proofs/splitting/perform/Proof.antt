@@ -6,10 +6,10 @@ use lib.ListN.{length}
 use Rattle.ring.specs.Grid.{vertices}
 use Rattle.ring.specs.Columns.{points}
 use Rattle.ring.proofs.Columns.{length-points}
-use Rattle.districts.specs.Lists.{firstPlace, size, part}
+use Rattle.districts.specs.Lists.{first_place, size, part}
 use Rattle.districts.proofs.Lent.{part_length}
 use Rattle.room.proofs.Written.{read_back}
-use Rattle.judging.specs.Splitting.{pieceOne, pieceTwo}
+use Rattle.judging.specs.Splitting.{piece_one, piece_two}
 use Rattle.changes.specs.declared.Changed.TheVariants.{Done}
 use Rattle.changes.specs.Performing.{Divided}
 use borrow.Author.Rules.{rules}
@@ -57,13 +57,13 @@ returns c =
     let runs = a.runs.now in
     let W = vertices a.path.now in
     let number = free.lowest-unused.ensures.0 in
-    let fits : firstPlace runs a.d + size runs a.d ≤ length store = omega (arith, length-points a.sx.now a.sy.now (s.requires.0.0 ∙ sym s.requires.0.1), s.requires.0.0, s.requires.1.0, s.requires.1.1.1.1) in
-    let ring = read_back (part store (firstPlace runs a.d) (size runs a.d)) _ (part_length store (firstPlace runs a.d) (size runs a.d) fits) _ _ got.copy-ring.ensures.1 _ got.copy-ring.ensures.0 in
+    let fits : first_place runs a.d + size runs a.d ≤ length store = omega (arith, length-points a.sx.now a.sy.now (s.requires.0.0 ∙ sym s.requires.0.1), s.requires.0.0, s.requires.1.0, s.requires.1.1.1.1) in
+    let ring = read_back (part store (first_place runs a.d) (size runs a.d)) _ (part_length store (first_place runs a.d) (size runs a.d) fits) _ _ got.copy-ring.ensures.1 _ got.copy-ring.ensures.0 in
     let store' = points done.divide.new.0 done.divide.new.1.0 in
     let runs' = done.divide.new.1.1.0 in
-    let divided = subst (λ P. Divided store runs a.d free.lowest-unused.result (pieceOne P a.i a.j W) (pieceTwo P a.i a.j W) store' runs') ring done.divide.ensures in
-    let P = part store (firstPlace runs a.d) (size runs a.d) in
-    (ap Done number, subst (λ e. Divided store runs a.d e (pieceOne P a.i a.j W) (pieceTwo P a.i a.j W) store' runs') number divided)
+    let divided = subst (λ P. Divided store runs a.d free.lowest-unused.result (piece_one P a.i a.j W) (piece_two P a.i a.j W) store' runs') ring done.divide.ensures in
+    let P = part store (first_place runs a.d) (size runs a.d) in
+    (ap Done number, subst (λ e. Divided store runs a.d e (piece_one P a.i a.j W) (piece_two P a.i a.j W) store' runs') number divided)
 
 pub perform-spec : {M : Type 1} → statement M
 perform-spec =

@@ -2,10 +2,10 @@
 use mathlib.Core.Path.{◌≡◌, sym, ap, ◌∙◌}
 use lib.ListN.{length}
 use borrow.Author.Rules.{rules}
-use Rattle.refusals.specs.Verdicts.{accept, verdict, verdictOf}
-use Rattle.districts.specs.Lent.{Lists, lent, outlineOf, store_of, formed, means}
+use Rattle.refusals.specs.Verdicts.{accept, verdict, verdict_of}
+use Rattle.districts.specs.Lent.{Lists, lent, outline_of, store_of, formed, means}
 use Rattle.districts.proofs.Sound.{store-lengths}
-use Rattle.judging.specs.Splitting.{splitTests}
+use Rattle.judging.specs.Splitting.{split_tests}
 use Rattle.judging.proofs.Judged.{free-is}
 use Rattle.changes.specs.declared.Changed.TheVariants.{Done}
 use Rattle.changes.proofs.Accepted.{right, facts, free, fits, split_below, split-well-formed, split-meaning}
@@ -20,8 +20,8 @@ abbrev start : tie.After-enum-told → tie.Start
 start c = c.before.before.before.before.before.before.before
 
 granted : (c : tie.After-enum-told) → let s = start c in
-    verdict (splitTests (formed (lists s)) (means (lists s)) s.args.d s.args.i s.args.j s.args.path.now) ≡ accept
-granted c = sym c.before.before.split.ensures ∙ ap verdictOf c.enum_told.given.1
+    verdict (split_tests (formed (lists s)) (means (lists s)) s.args.d s.args.i s.args.j s.args.path.now) ≡ accept
+granted c = sym c.before.before.split.ensures ∙ ap verdict_of c.enum_told.given.1
 
 split-requires : tie.Need-split-requires
 split-requires c κs = search rules
@@ -65,7 +65,7 @@ returns c =
     let was = store-lengths l (right l a.d a.i a.j a.path.now yes) in
     let long : (length done.new.0 ≡ 2048) × (length done.new.1.0 ≡ 2048) = (done.auto.0 ∙ was.0, done.auto.1.0 ∙ was.1) in
     let after : Lists = lent l.ox l.oy done.new.0 done.new.1.0 done.new.1.1.0 in
-    let number = free-is (outlineOf l) (store_of l) l.runs (facts l a.d a.i a.j a.path.now yes) in
+    let number = free-is (outline_of l) (store_of l) l.runs (facts l a.d a.i a.j a.path.now yes) in
     change-done _ _ _ l done.result after (done.ensures.0 ∙ ap Done (sym number)) yes
     (split-well-formed l a.d a.i a.j a.path.now yes done.new.0 done.new.1.0 done.new.1.1.0 long done.ensures.1)
     (split-meaning l a.d a.i a.j a.path.now yes done.new.0 done.new.1.0 done.new.1.1.0 long done.ensures.1)
@@ -83,7 +83,7 @@ returns-2 : tie.Need-returns-2
 returns-2 c =
     let told = c.before in
     let judged = told.before.before in
-    change-refused _ _ _ (lists judged.before.before.before.before.before) _ (sym judged.split.ensures ∙ ap verdictOf told.r.given.1)
+    change-refused _ _ _ (lists judged.before.before.before.before.before) _ (sym judged.split.ensures ∙ ap verdict_of told.r.given.1)
 
 pub split-known-spec : {M : Type 1} → statement M
 split-known-spec =

@@ -5,13 +5,13 @@ use native.Mathlib.Nat.{div-mul-le_self}
 use mathlib.Core.Path.{ap, ◌∙◌}
 use lib.ListN.{length}
 use borrow.Author.Rules.{rules}
-use Rattle.codes.specs.Batches.{answerTo, answerBy}
+use Rattle.codes.specs.Batches.{answer_to, answer_by}
 use Rattle.codes.proofs.Batched.{one-room, one-tail, Answered, answered-none, answered-more, answered-all}
 use Rattle.codes.proofs.batches.answer_all.Statement.{statement}
 use Rattle.codes.proofs.batches.answer_all.Tie as tie
 
 abbrev invariant-loop : tie.invariant-loop
-invariant-loop sx sy runs bx by mx my ax ay points answers₀ n i₀ answers i = Answered (answerBy sx sy runs points) n i answers₀ answers
+invariant-loop sx sy runs bx by mx my ax ay points answers₀ n i₀ answers i = Answered (answer_by sx sy runs points) n i answers₀ answers
 
 abbrev decreases-loop : tie.decreases-loop
 decreases-loop sx sy runs bx by mx my ax ay points answers₀ n i₀ answers i = n - i
@@ -70,7 +70,7 @@ loop-again c =
     let test = placed.before.before in
     let turn = test.before in
     let a = (start turn).args in
-    let is = placed.place-listed.ensures ∙ ap (answerTo a.sx.now a.sy.now a.runs.now) placed.before.point_at.ensures in
+    let is = placed.place-listed.ensures ∙ ap (answer_to a.sx.now a.sy.now a.runs.now) placed.before.point_at.ensures in
     answered-more _ _ _ _ _ turn.loop.invariant _ _ test.loop-test.true is told.tell.ensures (search (rules, turn.loop.invariant.long))
 
 same_length : tie.Need-same-length invariant-loop decreases-loop

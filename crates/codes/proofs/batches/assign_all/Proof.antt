@@ -1,7 +1,7 @@
 -- `codes::batches::assign_all` answers all points unless all of it is refused. Assumes nothing.
 use mathlib.Core.Path.{◌≡◌, refl, sym, ap, ◌∙◌}
 use lib.ListN.{length}
-use Rattle.refusals.specs.Verdicts.{accept, verdictOf}
+use Rattle.refusals.specs.Verdicts.{accept, verdict_of}
 use Rattle.districts.specs.Lent.{Lists, lent}
 use Rattle.codes.specs.Batches.{batch}
 use Rattle.codes.proofs.Batched.{batch-good, batch-left}
@@ -21,7 +21,7 @@ enum_told c = search rules
 -- nothing is refused
 accepted : (c : tie.After-enum-told) → let s = c.before.before.before.before.before in
     batch (lists s) s.args.points.now (length s.args.answers.now) ≡ accept
-accepted c = sym c.before.before.judged.ensures ∙ ap verdictOf c.enum_told.given.1
+accepted c = sym c.before.before.judged.ensures ∙ ap verdict_of c.enum_told.given.1
 
 answer-indexed-requires : tie.Need-answer-indexed-requires
 answer-indexed-requires c κs =
@@ -44,7 +44,7 @@ returns c =
 returns-2 : tie.Need-returns-2
 returns-2 c =
     let refused = c.before in
-    (sym (ap verdictOf refused.r.given.1) ∙ refused.before.before.judged.ensures, refl)
+    (sym (ap verdict_of refused.r.given.1) ∙ refused.before.before.judged.ensures, refl)
 
 pub assign-all-spec : {M : Type 1} → statement M
 assign-all-spec =

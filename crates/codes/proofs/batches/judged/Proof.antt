@@ -1,6 +1,6 @@
 -- `codes::batches::judged` asks the register first, then the lists' lengths. Assumes nothing.
 use mathlib.Core.Path.{sym, ap, ◌∙◌}
-use Rattle.refusals.specs.Verdicts.{verdictOf}
+use Rattle.refusals.specs.Verdicts.{verdict_of}
 use Rattle.refusals.proofs.Verdicts.{stops-early, passes-first}
 use borrow.Author.Rules.{rules}
 use Rattle.codes.proofs.batches.judged.Statement.{statement}
@@ -21,12 +21,12 @@ enum-known-r c = search rules
 returns : tie.Need-returns
 returns c =
     let used = c.before.before.before in
-    c.room.ensures ∙ sym (passes-first _ _ (sym used.usable.ensures ∙ ap verdictOf c.before.enum_told.given.1))
+    c.room.ensures ∙ sym (passes-first _ _ (sym used.usable.ensures ∙ ap verdict_of c.before.enum_told.given.1))
 
 returns-2 : tie.Need-returns-2
 returns-2 c =
     let used = c.before.before.before in
-    sym (stops-early _ _ _ (sym used.usable.ensures ∙ ap verdictOf c.before.r.given.1))
+    sym (stops-early _ _ _ (sym used.usable.ensures ∙ ap verdict_of c.before.r.given.1))
 
 pub judged-spec : {M : Type 1} → statement M
 judged-spec =

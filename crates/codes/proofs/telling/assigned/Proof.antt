@@ -2,7 +2,7 @@
 use mathlib.Core.Path.{ap, sym}
 use borrow.Author.Rules.{rules}
 use Rattle.districts.specs.Answers.{answer_of}
-use Rattle.codes.specs.Codes.{answerCode}
+use Rattle.codes.specs.Codes.{answer_code}
 use Rattle.codes.proofs.Values.{tells_as}
 use Rattle.codes.proofs.telling.assigned.Statement.{statement}
 use Rattle.codes.proofs.telling.assigned.Tie as tie
@@ -23,7 +23,7 @@ returns : tie.Need-returns
 returns c = search rules
 
 returns-2 : tie.Need-returns-2
-returns-2 c = tells_as (sym (ap (λ a. answerCode (answer_of a)) c.before.before.before.a2.given.1)) c.refused.ensures
+returns-2 c = tells_as (sym (ap (λ a. answer_code (answer_of a)) c.before.before.before.a2.given.1)) c.refused.ensures
 
 pub assigned-spec : {M : Type 1} → statement M
 assigned-spec =

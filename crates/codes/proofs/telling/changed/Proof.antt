@@ -2,7 +2,7 @@
 use mathlib.Core.Path.{ap, sym}
 use borrow.Author.Rules.{rules}
 use Rattle.changes.specs.Answers.{answer_of}
-use Rattle.codes.specs.Codes.{changeCode}
+use Rattle.codes.specs.Codes.{change_code}
 use Rattle.codes.proofs.Values.{tells_as}
 use Rattle.codes.proofs.telling.changed.Statement.{statement}
 use Rattle.codes.proofs.telling.changed.Tie as tie
@@ -23,7 +23,7 @@ returns : tie.Need-returns
 returns c = search rules
 
 returns-2 : tie.Need-returns-2
-returns-2 c = tells_as (sym (ap (λ r. changeCode (answer_of r)) c.before.before.before.c2.given.1)) c.refused.ensures
+returns-2 c = tells_as (sym (ap (λ r. change_code (answer_of r)) c.before.before.before.c2.given.1)) c.refused.ensures
 
 pub changed-spec : {M : Type 1} → statement M
 changed-spec =

@@ -2,7 +2,7 @@
 use mathlib.Core.Path.{ap, sym}
 use borrow.Author.Rules.{rules}
 use Rattle.districts.specs.Answers.{belongs}
-use Rattle.codes.specs.Codes.{classCode}
+use Rattle.codes.specs.Codes.{class_code}
 use Rattle.codes.proofs.Values.{tells_as}
 use Rattle.codes.proofs.telling.class.Statement.{statement}
 use Rattle.codes.proofs.telling.class.Tie as tie
@@ -32,7 +32,7 @@ told-requires-3 : tie.Need-told-requires-3
 told-requires-3 c κs = search rules
 
 returns : tie.Need-returns
-returns c = tells_as (sym (ap (λ a. classCode (belongs a)) c.before.before.before.c.given.1)) c.on-border.ensures
+returns c = tells_as (sym (ap (λ a. class_code (belongs a)) c.before.before.before.c.given.1)) c.on-border.ensures
 
 returns-2 : tie.Need-returns-2
 returns-2 c = search rules

@@ -1,8 +1,8 @@
 -- `codes::telling::founded` meets its contract. Assumes nothing.
 use mathlib.Core.Path.{ap, sym}
 use borrow.Author.Rules.{rules}
-use Rattle.register.specs.Calls.{outcomeOf}
-use Rattle.codes.specs.Codes.{verdictCode}
+use Rattle.register.specs.Calls.{outcome_of}
+use Rattle.codes.specs.Codes.{verdict_code}
 use Rattle.codes.proofs.Values.{tells_as}
 use Rattle.codes.proofs.telling.founded.Statement.{statement}
 use Rattle.codes.proofs.telling.founded.Tie as tie
@@ -23,7 +23,7 @@ returns : tie.Need-returns
 returns c = search rules
 
 returns-2 : tie.Need-returns-2
-returns-2 c = tells_as (sym (ap (λ f. verdictCode (outcomeOf f)) c.before.before.before.f.given.1)) c.refused.ensures
+returns-2 c = tells_as (sym (ap (λ f. verdict_code (outcome_of f)) c.before.before.before.f.given.1)) c.refused.ensures
 
 pub founded-spec : {M : Type 1} → statement M
 founded-spec =

@@ -1,7 +1,7 @@
 -- `codes::telling::judged` tells a verdict. Assumes nothing.
 use mathlib.Core.Path.{sym, ap}
-use Rattle.refusals.specs.Verdicts.{verdictOf}
-use Rattle.codes.specs.Codes.{verdictCode}
+use Rattle.refusals.specs.Verdicts.{verdict_of}
+use Rattle.codes.specs.Codes.{verdict_code}
 use Rattle.codes.proofs.Values.{tells_as}
 use borrow.Author.Rules.{rules}
 use Rattle.codes.proofs.telling.judged.Statement.{statement}
@@ -23,7 +23,7 @@ returns : tie.Need-returns
 returns c = search rules
 
 returns-2 : tie.Need-returns-2
-returns-2 c = tells_as (sym (ap (λ v. verdictCode (verdictOf v)) c.before.before.before.v.given.1)) c.refused.ensures
+returns-2 c = tells_as (sym (ap (λ v. verdict_code (verdict_of v)) c.before.before.before.v.given.1)) c.refused.ensures
 
 pub judged-spec : {M : Type 1} → statement M
 judged-spec =

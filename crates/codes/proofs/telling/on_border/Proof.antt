@@ -2,7 +2,7 @@
 use mathlib.Core.Path.{ap, sym}
 use borrow.Author.Rules.{rules}
 use Rattle.ring.specs.Locate.{touch_of}
-use Rattle.codes.specs.Codes.{onBorderCode}
+use Rattle.codes.specs.Codes.{on_border_code}
 use Rattle.codes.proofs.Values.{tells_as}
 use Rattle.codes.proofs.telling.on_border.Statement.{statement}
 use Rattle.codes.proofs.telling.on_border.Tie as tie
@@ -20,10 +20,10 @@ bordered-requires-2 : tie.Need-bordered-requires-2
 bordered-requires-2 c κs = search rules
 
 returns : tie.Need-returns
-returns c = let first = c.before.before.before in tells_as (sym (ap (λ t. onBorderCode first.before.before.args.d (touch_of t)) first.t.given.1)) c.bordered.ensures
+returns c = let first = c.before.before.before in tells_as (sym (ap (λ t. on_border_code first.before.before.args.d (touch_of t)) first.t.given.1)) c.bordered.ensures
 
 returns-2 : tie.Need-returns-2
-returns-2 c = let first = c.before.before.before in tells_as (sym (ap (λ t. onBorderCode first.before.before.args.d (touch_of t)) first.t2.given.1)) c.bordered2.ensures
+returns-2 c = let first = c.before.before.before in tells_as (sym (ap (λ t. on_border_code first.before.before.args.d (touch_of t)) first.t2.given.1)) c.bordered2.ensures
 
 pub on-border-spec : {M : Type 1} → statement M
 on-border-spec =

@@ -2,7 +2,7 @@
 use mathlib.Core.Path.{ap, sym}
 use borrow.Author.Rules.{rules}
 use Rattle.ring.specs.Locate.{place_of}
-use Rattle.codes.specs.Codes.{placeCode}
+use Rattle.codes.specs.Codes.{place_code}
 use Rattle.codes.proofs.Values.{tells_as}
 use Rattle.codes.proofs.telling.place.Statement.{statement}
 use Rattle.codes.proofs.telling.place.Tie as tie
@@ -32,7 +32,7 @@ returns-2 : tie.Need-returns-2
 returns-2 c = search rules
 
 returns-3 : tie.Need-returns-3
-returns-3 c = tells_as (sym (ap (λ p. placeCode (place_of p)) c.before.before.before.p3.given.1)) c.refused.ensures
+returns-3 c = tells_as (sym (ap (λ p. place_code (place_of p)) c.before.before.before.p3.given.1)) c.refused.ensures
 
 pub place-spec : {M : Type 1} → statement M
 place-spec =

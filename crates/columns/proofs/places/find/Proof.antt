@@ -9,7 +9,7 @@ use borrow.Author.Tests.{lt-ltb, le-ltb}
 use Rattle.ring.specs.declared.Point.{Point}
 use Rattle.ring.specs.declared.places.Span.{Span}
 use Rattle.ring.specs.Columns.{points}
-use Rattle.ring.specs.Locate.{lowest, highest, atVertex}
+use Rattle.ring.specs.Locate.{lowest, highest, at_vertex}
 use Rattle.ring.specs.Walk.{head_of}
 use Rattle.columns.specs.Walk.{Ready}
 use Rattle.ring.proofs.Pick.{pick_true, pick-false}
@@ -28,14 +28,14 @@ lowest-vertex-requires c κs = ready c
 highest-vertex-requires : tie.Need-highest-vertex-requires
 highest-vertex-requires c κs = ready c.before.before
 
-low : (c : tie.After-lowest-vertex) → c.lowest-vertex.result ≡ lowest (atVertex (points c.before.before.args.xs.now c.before.before.args.ys.now) (head_of c.before.before.args.r)) (length c.before.before.args.xs.now) 0
-low c = let a = c.before.before.args in c.lowest-vertex.ensures ∙ ap (λ (R : Point). lowest (atVertex (points a.xs.now a.ys.now) R) (length a.xs.now) 0) c.before.narrow.ensures
+low : (c : tie.After-lowest-vertex) → c.lowest-vertex.result ≡ lowest (at_vertex (points c.before.before.args.xs.now c.before.before.args.ys.now) (head_of c.before.before.args.r)) (length c.before.before.args.xs.now) 0
+low c = let a = c.before.before.args in c.lowest-vertex.ensures ∙ ap (λ (R : Point). lowest (at_vertex (points a.xs.now a.ys.now) R) (length a.xs.now) 0) c.before.narrow.ensures
 
 returns : tie.Need-returns
 returns c =
     let found = c.before.before in
     let a = found.before.before.args in
-    let high : c.highest-vertex.result ≡ highest (atVertex (points a.xs.now a.ys.now) (head_of a.r)) (length a.xs.now) = c.highest-vertex.ensures ∙ ap (λ (R : Point). highest (atVertex (points a.xs.now a.ys.now) R) (length a.xs.now)) found.before.narrow.ensures in
+    let high : c.highest-vertex.result ≡ highest (at_vertex (points a.xs.now a.ys.now) (head_of a.r)) (length a.xs.now) = c.highest-vertex.ensures ∙ ap (λ (R : Point). highest (at_vertex (points a.xs.now a.ys.now) R) (length a.xs.now)) found.before.narrow.ensures in
     (λ i. record { vertex = true; at = record { lowest = low found i; highest = high i } })
     ∙ sym (pick_true (ap (λ (v : ℕ). ltb v (length a.xs.now)) (sym (low found)) ∙ lt-ltb _ (length a.xs.now) c.before.if1.true) _ _)
 

@@ -6,13 +6,13 @@ use lib.ListN.{length}
 use borrow.Author.Rules.{rules}
 use Rattle.ring.specs.Columns.{points}
 use Rattle.ring.specs.Segment.{same}
-use Rattle.ring.specs.Locate.{atVertex}
+use Rattle.ring.specs.Locate.{at_vertex}
 use Rattle.ring.proofs.Search.{Unmet, unmet-none, unmet-more, unmet-hit, unmet-all}
 use Rattle.columns.proofs.places.lowest_vertex.Statement.{statement}
 use Rattle.columns.proofs.places.lowest_vertex.Tie as tie
 
 abbrev invariant-loop : tie.invariant-loop
-invariant-loop xs ys r n v₀ v = Unmet (atVertex (points xs ys) r) v
+invariant-loop xs ys r n v₀ v = Unmet (at_vertex (points xs ys) r) v
 
 abbrev decreases-loop : tie.decreases-loop
 decreases-loop xs ys r n v₀ v = n - v
@@ -27,7 +27,7 @@ same-requires : tie.Need-same-requires invariant-loop decreases-loop
 same-requires c κs = search rules
 
 -- the test was of vertex v
-tested : (c : tie.After-same invariant-loop decreases-loop) → atVertex (points c.before.before.before.before.args.xs.now c.before.before.before.before.args.ys.now) c.before.before.before.before.args.r c.before.before.before.loop.v ≡ c.same.result
+tested : (c : tie.After-same invariant-loop decreases-loop) → at_vertex (points c.before.before.before.before.args.xs.now c.before.before.before.before.args.ys.now) c.before.before.before.before.args.r c.before.before.before.loop.v ≡ c.same.result
 tested c = sym (c.same.ensures ∙ ap (same c.before.before.before.before.args.r) c.before.vertex.ensures)
 
 returns : tie.Need-returns invariant-loop decreases-loop

@@ -7,7 +7,7 @@ use Rattle.ring.specs.declared.Point.{Point}
 use Rattle.ring.specs.Columns.{points}
 use Rattle.ring.specs.Walk.{head_of, Counts, none, Counted}
 use Rattle.ring.proofs.OnGrid.{held}
-use Rattle.columns.specs.Rows.{preceding, risesTo, fallsTo, Scanned, Twice}
+use Rattle.columns.specs.Rows.{preceding, rises_to, falls_to, Scanned, Twice}
 use Rattle.columns.specs.Walk.{Ready}
 use Rattle.columns.proofs.Scans.{only_one}
 use Rattle.columns.proofs.Pairs.{counted-twice}
@@ -42,7 +42,7 @@ edge-to-requires c κs =
     let start = widened.before.before.before in
     let scan = widened.before in
     let ys = start.args.ys.now in
-    let up = only_one (risesTo ys start.args.r.y) (length ys) scan.scan.result.rises c.to.result (told scan).rises (crossed c.before).rises c.to.ensures in
+    let up = only_one (rises_to ys start.args.r.y) (length ys) scan.scan.result.rises c.to.result (told scan).rises (crossed c.before).rises c.to.ensures in
     (ready widened, (omega (arith, up.within, start.requires.clean.even), omega arith))
 
 to-requires-2 : tie.Need-to-requires-2
@@ -56,7 +56,7 @@ edge-to-requires-2 c κs =
     let start = widened.before.before.before in
     let scan = widened.before in
     let ys = start.args.ys.now in
-    let down = only_one (fallsTo ys start.args.r.y) (length ys) scan.scan.result.falls c.to2.result (told scan).falls (crossed then).falls c.to2.ensures in
+    let down = only_one (falls_to ys start.args.r.y) (length ys) scan.scan.result.falls c.to2.result (told scan).falls (crossed then).falls c.to2.ensures in
     (ready widened, (omega (arith, down.within, start.requires.clean.even), omega (arith, first.edge_to.ensures.few)))
 
 returns : tie.Need-returns

@@ -4,7 +4,7 @@ use native.Mathlib.Omega.{arith}
 use mathlib.Core.Path.{◌≡◌, ◌∙◌}
 use borrow.Author.Rules.{rules}
 use borrow.Author.Tests.{eq-eqb}
-use Rattle.districts.specs.Counts.{allTo, sum_to}
+use Rattle.districts.specs.Counts.{all_to, sum_to}
 use Rattle.districts.specs.Lists.{size}
 use Rattle.districts.specs.Places.{joined}
 use Rattle.districts.proofs.Counting.{all_none, all_more, all_rest, sum-none, sum_more, term-left, rest-none}
@@ -13,7 +13,7 @@ use Rattle.districts.proofs.packing.all_joined.Statement.{statement}
 use Rattle.districts.proofs.packing.all_joined.Tie as tie
 
 abbrev invariant-loop : tie.invariant-loop
-invariant-loop runs starts all good₀ seen₀ d₀ good seen d = (d ≤ 64) × (good ≡ allTo d (joined runs starts all)) × (seen ≡ sum_to d (size runs))
+invariant-loop runs starts all good₀ seen₀ d₀ good seen d = (d ≤ 64) × (good ≡ all_to d (joined runs starts all)) × (seen ≡ sum_to d (size runs))
 
 abbrev decreases-loop : tie.decreases-loop
 decreases-loop runs starts all good₀ seen₀ d₀ good seen d = 64 - d

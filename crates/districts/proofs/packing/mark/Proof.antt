@@ -5,7 +5,7 @@ use mathlib.Core.Path.{sym, ◌∙◌}
 use lib.Dec.{ltb}
 use borrow.Author.Rules.{rules}
 use borrow.Author.Tests.{ltb-true, ltb-false, lt-ltb}
-use Rattle.districts.specs.Lists.{firstPlace, size}
+use Rattle.districts.specs.Lists.{first_place, size}
 use Rattle.districts.proofs.Tests.{both_left, both_right, goes_on}
 use Rattle.districts.proofs.Marks.{marked-with, marked-without}
 use Rattle.districts.proofs.packing.mark.Statement.{statement}
@@ -46,7 +46,7 @@ returns c =
 
 -- the test that failed
 beyond : (c : tie.Else1) → let a = c.before.before.before.before.before.args in
-    0 < size a.runs.now a.d → 2048 ≤ firstPlace a.runs.now a.d
+    0 < size a.runs.now a.d → 2048 ≤ first_place a.runs.now a.d
 beyond c u =
     let first = c.before.before.first-place.ensures.0 in
     let long = c.before.size.ensures.0 in

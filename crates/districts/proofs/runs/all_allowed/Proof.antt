@@ -2,7 +2,7 @@
 use Prim.Native.Nat.{◌≤◌, ◌-◌}
 use mathlib.Core.Path.{◌≡◌, ap, ◌∙◌}
 use borrow.Author.Rules.{rules}
-use Rattle.districts.specs.Counts.{allTo}
+use Rattle.districts.specs.Counts.{all_to}
 use Rattle.districts.specs.Lists.{size}
 use Rattle.districts.specs.WellFormed.{sized}
 use Rattle.districts.proofs.Counting.{all_none, all_more, all_end}
@@ -10,7 +10,7 @@ use Rattle.districts.proofs.runs.all_allowed.Statement.{statement}
 use Rattle.districts.proofs.runs.all_allowed.Tie as tie
 
 abbrev invariant-loop : tie.invariant-loop
-invariant-loop runs good₀ d₀ good d = (d ≤ 64) × (good ≡ allTo d (λ d. sized (size runs d)))
+invariant-loop runs good₀ d₀ good d = (d ≤ 64) × (good ≡ all_to d (λ d. sized (size runs d)))
 
 abbrev decreases-loop : tie.decreases-loop
 decreases-loop runs good₀ d₀ good d = 64 - d

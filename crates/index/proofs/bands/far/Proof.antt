@@ -11,7 +11,7 @@ use mir.Facts.{to_z-of_z}
 use borrow.Author.Rules.{rules}
 use Rattle.exact.proofs.Bounds.{signed, narrow-fits, narrow-sub}
 use Rattle.index.specs.Axis.{far}
-use Rattle.index.proofs.Order.{far-nonNeg, far-short}
+use Rattle.index.proofs.Order.{far-non_neg, far-short}
 use Rattle.index.proofs.bands.far.Statement.{statement}
 use Rattle.index.proofs.bands.far.Tie as tie
 
@@ -33,7 +33,7 @@ cast-result-3 c =
     let f : SFits w32 s.args.v.0 = search rules in
     let g : SFits w32 s.args.low.0 = search rules in
     subst (λ z. T (non_neg z) × Fits w64 (nat_abs z)) (sym (difference s.args.v.0 s.args.low.0 f g))
-    (far-nonNeg s.args.v.0 s.args.low.0 s.requires, record { fits = omega (arith, far-short s.args.v.0 s.args.low.0 s.requires f g) })
+    (far-non_neg s.args.v.0 s.args.low.0 s.requires, record { fits = omega (arith, far-short s.args.v.0 s.args.low.0 s.requires f g) })
 
 returns : tie.Need-returns
 returns c =

@@ -9,12 +9,12 @@ use mir.Syntax.{w32}
 use mir.Val.{SFits}
 use mir.Facts.{to_z-of_z}
 use borrow.Author.Rules.{rules}
-use Rattle.index.proofs.Order.{geZ, ge_trans, higher-ge, BoundsTo, bounds-more}
+use Rattle.index.proofs.Order.{ge_z, ge_trans, higher-ge, BoundsTo, bounds-more}
 use Rattle.index.proofs.bounds.highest.Statement.{statement}
 use Rattle.index.proofs.bounds.highest.Tie as tie
 
 abbrev invariant-loop : tie.invariant-loop
-invariant-loop column b₀ j₀ b j = (j ≤ length column) × BoundsTo geZ column j b.0
+invariant-loop column b₀ j₀ b j = (j ≤ length column) × BoundsTo ge_z column j b.0
 
 abbrev decreases-loop : tie.decreases-loop
 decreases-loop column b₀ j₀ b j = length column - j
@@ -47,7 +47,7 @@ loop-again c =
     let f : SFits w32 (get_or column turn.loop.j (pos 0)) = search rules in
     let is = simp (to_z-of_z f) at c.higher.ensures in
     let both = higher-ge turn.loop.high.0 (get_or column turn.loop.j (pos 0)) in
-    (omega (arith, c.before.before.loop-test.true), bounds-more geZ ge_trans column turn.loop.j turn.loop.high.0 c.higher.result.0 turn.loop.invariant.1 (subst (λ b. geZ b turn.loop.high.0 ≡ true) (sym is) both.0) (subst (λ b. geZ b (get_or column turn.loop.j (pos 0)) ≡ true) (sym is) both.1))
+    (omega (arith, c.before.before.loop-test.true), bounds-more ge_z ge_trans column turn.loop.j turn.loop.high.0 c.higher.result.0 turn.loop.invariant.1 (subst (λ b. ge_z b turn.loop.high.0 ≡ true) (sym is) both.0) (subst (λ b. ge_z b (get_or column turn.loop.j (pos 0)) ≡ true) (sym is) both.1))
 
 returns : tie.Need-returns invariant-loop decreases-loop
 returns c j h = c.before.loop.invariant.1 j (omega (arith, c.loop-test.false, h))

@@ -10,13 +10,13 @@ use lib.ListN.{length, take, drop}
 use borrow.Author.Tests.{eq-eqb, ne_eqb, eqb-false, not-true, not-false}
 use Rattle.ring.specs.Columns.{points}
 use Rattle.ring.proofs.Pick.{neither_left, neither_right}
-use Rattle.districts.specs.Register.{Slot, inUse, verticesOf}
-use Rattle.districts.specs.Lists.{firstPlace, size, part, district}
+use Rattle.districts.specs.Register.{Slot, in_use, vertices_of}
+use Rattle.districts.specs.Lists.{first_place, size, part, district}
 use Rattle.districts.proofs.Meaning.{ring-when}
 use Rattle.districts.proofs.Lent.{held-in-use, cut, cut-points, part_length}
 use Rattle.refusals.specs.Verdicts.{verdict}
 use Rattle.refusals.proofs.Verdicts.{refused-by, left-to}
-use Rattle.judging.specs.Judging.{borderTests}
+use Rattle.judging.specs.Judging.{border_tests}
 use borrow.Author.Rules.{rules}
 use Rattle.judging.proofs.matching.judge_pair.Statement.{statement}
 use Rattle.judging.proofs.matching.judge_pair.Tie as tie
@@ -32,11 +32,11 @@ slot_of s d = district (points s.args.sx.now s.args.sy.now) s.args.runs.now d
 
 -- whether the numbers are in use is told by their sizes
 numbers : (c : tie.After-in-use2) → let s = c.before.before.before in
-    (not c.before.in_use.result || not c.in-use2.result) ≡ (not (inUse (slot_of s s.args.kept)) || not (inUse (slot_of s s.args.gone)))
+    (not c.before.in_use.result || not c.in-use2.result) ≡ (not (in_use (slot_of s s.args.kept)) || not (in_use (slot_of s s.args.gone)))
 numbers c =
     let s = c.before.before.before in
     let runs = s.args.runs.now in
-    let tells : (d : ℕ) → not (eqb (size runs d) 0) ≡ inUse (slot_of s d) = λ d. sym (held-in-use (points s.args.sx.now s.args.sy.now) (firstPlace runs d) (size runs d)) in
+    let tells : (d : ℕ) → not (eqb (size runs d) 0) ≡ in_use (slot_of s d) = λ d. sym (held-in-use (points s.args.sx.now s.args.sy.now) (first_place runs d) (size runs d)) in
     λ t. not ((c.before.in_use.ensures.0 ∙ tells s.args.kept) t) || not ((c.in-use2.ensures.0 ∙ tells s.args.gone) t)
 
 -- a number in use is below 64 and has vertices
@@ -56,10 +56,10 @@ runs-long c = c.before.before.before.before.requires.runs-length
 cut-long : (l : List ℤ) (f n : ℕ) → f + n ≤ length l → length (take (f + n - f) (drop f l)) ≡ n
 cut-long l f n h = ap length (cut l f n) ∙ part_length l f n h
 
-ring_of : (sx sy : List ℤ) (runs : List ℕ) (d : ℕ) {f n : ℕ} → f ≡ firstPlace runs d → n ≡ size runs d → (size runs d ≡ 0 → ⊥)
-    → points (take (f + n - f) (drop f sx)) (take (f + n - f) (drop f sy)) ≡ verticesOf (district (points sx sy) runs d)
-ring_of sx sy runs d {f} {n} e k some =
-    cut-points sx sy f n ∙ (λ t. part (points sx sy) (e t) (k t)) ∙ sym (ap verticesOf (ring-when (points sx sy) (firstPlace runs d) (size runs d) some))
+ring_of_lem : (sx sy : List ℤ) (runs : List ℕ) (d : ℕ) {f n : ℕ} → f ≡ first_place runs d → n ≡ size runs d → (size runs d ≡ 0 → ⊥)
+    → points (take (f + n - f) (drop f sx)) (take (f + n - f) (drop f sy)) ≡ vertices_of (district (points sx sy) runs d)
+ring_of_lem sx sy runs d {f} {n} e k some =
+    cut-points sx sy f n ∙ (λ t. part (points sx sy) (e t) (k t)) ∙ sym (ap vertices_of (ring-when (points sx sy) (first_place runs d) (size runs d) some))
 
 returns : tie.Need-returns
 returns c = refused-by 6 _ _ (sym (numbers c.before) ∙ c.if1.true)
@@ -178,11 +178,11 @@ returns-3 c =
     let differ = place.before in
     let used = differ.before in
     let a = (start all).args in
-    let P = ring_of a.sx.now a.sy.now a.runs.now a.kept place.first-place.ensures.0 size₁.size.ensures.0 (kept used).1 in
-    let Q = ring_of a.sx.now a.sy.now a.runs.now a.gone place₂.first-place2.ensures.0 all.size2.ensures.0 (gone used).1 in
+    let P = ring_of_lem a.sx.now a.sy.now a.runs.now a.kept place.first-place.ensures.0 size₁.size.ensures.0 (kept used).1 in
+    let Q = ring_of_lem a.sx.now a.sy.now a.runs.now a.gone place₂.first-place2.ensures.0 all.size2.ensures.0 (gone used).1 in
     left-to 6 _ _ (sym (numbers used.before) ∙ used.if1.false)
     (left-to 7 _ _ (ne_eqb a.kept a.gone differ.if2.false)
-    (c.judge-border.ensures ∙ (λ t. verdict (borderTests (P t) a.a (Q t) a.b a.k))))
+    (c.judge-border.ensures ∙ (λ t. verdict (border_tests (P t) a.a (Q t) a.b a.k))))
 
 pub judge-pair-spec : {M : Type 1} → statement M
 judge-pair-spec =

@@ -11,23 +11,23 @@ use borrow.Author.Tests.{not-true, not-false}
 use Rattle.ring.specs.declared.Point.{Point}
 use Rattle.ring.specs.Columns.{points}
 use Rattle.ring.proofs.Columns.{length-points}
-use Rattle.judging.proofs.Matched.{meetsAt, match-all, match-fails}
+use Rattle.judging.proofs.Matched.{meets_at, match-all, match-fails}
 use Rattle.judging.proofs.matching.matches.Statement.{statement}
 use Rattle.judging.proofs.matching.matches.Tie as tie
 
 record Met (P : List Point) (a : ℕ) (Q : List Point) (b m k t : ℕ) : Type 0 where
   most : t ≤ suc k
-  each : (s : ℕ) → s < t → meetsAt P a Q b m s ≡ true
+  each : (s : ℕ) → s < t → meets_at P a Q b m s ≡ true
 
 -- one point more
-met-more : (P : List Point) (a : ℕ) (Q : List Point) (b m k t : ℕ) → t ≤ k → meetsAt P a Q b m t ≡ true → Met P a Q b m k t → Met P a Q b m k (t + 1)
+met-more : (P : List Point) (a : ℕ) (Q : List Point) (b m k t : ℕ) → t ≤ k → meets_at P a Q b m t ≡ true → Met P a Q b m k t → Met P a Q b m k (t + 1)
 met-more P a Q b m k t h e met = record {
   most = omega arith;
   each = λ s less. elim (dec_lt s t) [
     | yes lower ↦ met.each s lower
     | no other ↦
         let same : s ≡ t = omega (arith, less, other) in
-        ap (meetsAt P a Q b m) same ∙ e
+        ap (meets_at P a Q b m) same ∙ e
   ];
 }
 

@@ -9,7 +9,7 @@ use Rattle.refusals.proofs.Verdicts.{refused-by, left-to}
 use Rattle.districts.specs.Lists.{size}
 use Rattle.districts.specs.WellFormed.{total}
 use Rattle.districts.proofs.Counting.{term-most}
-use Rattle.judging.specs.Judging.{lowestFree, cutTests}
+use Rattle.judging.specs.Judging.{lowest_free, cut_tests}
 use Rattle.judging.proofs.splits.judge_district.Statement.{statement}
 use Rattle.judging.proofs.splits.judge_district.Tie as tie
 
@@ -38,7 +38,7 @@ returns-2 c =
     let a = used.before.before.before.args in
     let runs = a.runs.now in
     left-to 6 _ _ (not-true _ (sym used.before.in_use.ensures.0 ∙ not-false _ used.if1.false))
-    (c.judge-cut.ensures ∙ (λ t. verdict (cutTests (count.size.ensures.0 t) (total runs) (lowestFree runs) a.i a.j a.path.now)))
+    (c.judge-cut.ensures ∙ (λ t. verdict (cut_tests (count.size.ensures.0 t) (total runs) (lowest_free runs) a.i a.j a.path.now)))
 
 pub judge-district-spec : {M : Type 1} → statement M
 judge-district-spec =

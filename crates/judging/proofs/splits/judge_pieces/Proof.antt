@@ -8,7 +8,7 @@ use lib.ListN.{length}
 use borrow.Author.Tests.{le-leb, lt-leb, lt-ltb, le-ltb}
 use Rattle.districts.specs.WellFormed.{total}
 use Rattle.room.specs.Runs.{steps}
-use Rattle.judging.specs.Judging.{lowestFree}
+use Rattle.judging.specs.Judging.{lowest_free}
 use Rattle.refusals.proofs.Verdicts.{refused-by, left-to, passed-all}
 use borrow.Author.Rules.{rules}
 use Rattle.judging.proofs.splits.judge_pieces.Statement.{statement}
@@ -54,7 +54,7 @@ returns-2 c =
     let free = c.before in
     let first = free.before in
     left-to 9 _ _ (sym (few first.before) ∙ first.if1.false)
-    (refused-by 11 _ _ (le-leb 64 (lowestFree first.before.before.before.before.args.runs.now) (omega (arith, free.lowest-unused.ensures.0, c.if2.true))))
+    (refused-by 11 _ _ (le-leb 64 (lowest_free first.before.before.before.before.args.runs.now) (omega (arith, free.lowest-unused.ensures.0, c.if2.true))))
 
 total-requires : tie.Need-total-requires
 total-requires c κs = search rules
@@ -73,7 +73,7 @@ returns-3 c =
     let runs = first.before.before.before.before.args.runs.now in
     let path = first.before.before.before.before.args.path.now in
     left-to 9 _ _ (sym (few first.before) ∙ first.if1.false)
-    (left-to 11 _ _ (lt-leb 64 (lowestFree runs) (omega (arith, free.lowest-unused.ensures.0, all.before.if2.false)))
+    (left-to 11 _ _ (lt-leb 64 (lowest_free runs) (omega (arith, free.lowest-unused.ensures.0, all.before.if2.false)))
     (refused-by 12 _ _ (lt-ltb 2048 (total runs + 2 + length path) (omega (arith, all.total.ensures, c.if3.true)))))
 
 returns-4 : tie.Need-returns-4
@@ -84,7 +84,7 @@ returns-4 c =
     let runs = first.before.before.before.before.args.runs.now in
     let path = first.before.before.before.before.args.path.now in
     left-to 9 _ _ (sym (few first.before) ∙ first.if1.false)
-    (left-to 11 _ _ (lt-leb 64 (lowestFree runs) (omega (arith, free.lowest-unused.ensures.0, all.before.if2.false)))
+    (left-to 11 _ _ (lt-leb 64 (lowest_free runs) (omega (arith, free.lowest-unused.ensures.0, all.before.if2.false)))
     (left-to 12 _ _ (le-ltb 2048 (total runs + 2 + length path) (omega (arith, all.total.ensures, c.if3.false))) (sym passed-all)))
 
 pub judge-pieces-spec : {M : Type 1} → statement M

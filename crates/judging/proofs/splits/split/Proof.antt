@@ -1,8 +1,8 @@
 -- `judging::splits::split` asks in the rules' order. Assumes nothing.
 use mathlib.Core.Path.{◌≡◌, sym, ap, ◌∙◌}
 use borrow.Author.Rules.{rules}
-use Rattle.refusals.specs.Verdicts.{verdict, verdictOf}
-use Rattle.districts.specs.Lent.{Lists, lent, outlineOf, store_of, formed, means, beginning}
+use Rattle.refusals.specs.Verdicts.{verdict, verdict_of}
+use Rattle.districts.specs.Lent.{Lists, lent, outline_of, store_of, formed, means, beginning}
 use Rattle.room.proofs.Forms.{sound}
 use Rattle.districts.proofs.Sound.{runs-length}
 use Rattle.districts.proofs.Begun.{begins-so, begun-formed, begun-passed, begun-refused}
@@ -14,7 +14,7 @@ abbrev lists : tie.Start → Lists
 lists s = lent s.args.ox.now s.args.oy.now s.args.sx.now s.args.sy.now s.args.runs.now
 
 -- the two tests with which the call begins, of the lists that were lent
-said : (used : tie.After-begins) → let s = used.before.before in verdictOf used.begins.result ≡ verdict (beginning (formed (lists s)) (means (lists s)))
+said : (used : tie.After-begins) → let s = used.before.before in verdict_of used.begins.result ≡ verdict (beginning (formed (lists s)) (means (lists s)))
 said used = let s = used.before.before in begins-so (lists s) s.args.good used.begins.result s.requires used.begins.ensures
 
 begins-requires : tie.Need-begins-requires
@@ -42,13 +42,13 @@ returns c =
     let a = s.args in
     let well = begun-formed l used.begins.result (said used) told.enum_told.given.1 in
     begun-passed l used.begins.result (said used) told.enum_told.given.1 _ _ c.judge-district.ensures
-    ∙ ap verdict (sym (tests-are (outlineOf l) (store_of l) l.runs (sound l well) a.d a.i a.j a.path.now (formed l)))
+    ∙ ap verdict (sym (tests-are (outline_of l) (store_of l) l.runs (sound l well) a.d a.i a.j a.path.now (formed l)))
 
 returns-2 : tie.Need-returns-2
 returns-2 c =
     let refused = c.before in
     let used = refused.before.before in
-    begun-refused (lists used.before.before) used.begins.result (said used) _ (ap verdictOf refused.r.given.1) _
+    begun-refused (lists used.before.before) used.begins.result (said used) _ (ap verdict_of refused.r.given.1) _
 
 pub split-spec : {M : Type 1} → statement M
 split-spec =

@@ -1,6 +1,6 @@
 -- `records::decoding::merge` reads its fields once they are all there. Assumes nothing.
 use native.Mathlib.Omega.{arith}
-use Rattle.records.specs.Layout.{mergeFront}
+use Rattle.records.specs.Layout.{merge_front}
 use Rattle.records.proofs.Fronts.{more-needed, short, merge-whole}
 use borrow.Author.Rules.{rules}
 use Rattle.records.proofs.decoding.merge.Statement.{statement}
@@ -13,7 +13,7 @@ returns : tie.Need-returns
 returns c =
     let s = c.before.before.before in
     let bytes = s.args.bytes.now in
-    λ to. more-needed c.nothing.result (mergeFront bytes) to (short bytes 11 _ (omega (arith, c.before.if1.true))) c.nothing.ensures
+    λ to. more-needed c.nothing.result (merge_front bytes) to (short bytes 11 _ (omega (arith, c.before.if1.true))) c.nothing.ensures
 
 one-requires : tie.Need-one-requires
 one-requires c κs = search rules

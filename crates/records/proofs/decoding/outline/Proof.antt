@@ -3,7 +3,7 @@ use Prim.Native.Nat.{◌+◌, ◌*◌}
 use native.Mathlib.Omega.{arith}
 use mathlib.Core.Path.{refl, ◌∙◌}
 use Rattle.records.specs.Bytes.{field}
-use Rattle.records.specs.Layout.{outlineFront}
+use Rattle.records.specs.Layout.{outline_front}
 use Rattle.records.proofs.Fronts.{more-needed, broken-found, short, enough, announced-many, announced-few, outline-whole}
 use borrow.Author.Rules.{rules}
 use Rattle.records.proofs.decoding.outline.Statement.{statement}
@@ -16,7 +16,7 @@ returns : tie.Need-returns
 returns c =
     let s = c.before.before.before in
     let bytes = s.args.bytes.now in
-    more-needed c.nothing.result (outlineFront bytes) s.args.to.now (short bytes 5 _ c.before.if1.true) c.nothing.ensures
+    more-needed c.nothing.result (outline_front bytes) s.args.to.now (short bytes 5 _ c.before.if1.true) c.nothing.ensures
 
 two-requires : tie.Need-two-requires
 two-requires c κs = search rules
@@ -30,7 +30,7 @@ returns-2 c =
     let s = many.before.before.before in
     let bytes = s.args.bytes.now in
     let is = enough bytes 5 _ many.before.if1.false ∙ announced-many (field bytes 3 2) _ (omega (arith, many.two.ensures.0, c.before.if2.true)) in
-    broken-found c.nothing2.result (outlineFront bytes) s.args.to.now is c.nothing2.ensures
+    broken-found c.nothing2.result (outline_front bytes) s.args.to.now is c.nothing2.ensures
 
 mul-taken : tie.Need-overflow-mul-taken
 mul-taken c = search rules
@@ -49,7 +49,7 @@ returns-3 c =
     let bytes = s.args.bytes.now in
     let n = many.two.ensures.0 in
     let is = enough bytes 5 _ many.before.if1.false ∙ announced-few (field bytes 3 2) _ (omega (arith, n, few.if2.false)) ∙ short bytes (5 + 8 * field bytes 3 2) _ (omega (arith, n, c.before.if3.true)) in
-    more-needed c.nothing3.result (outlineFront bytes) s.args.to.now is c.nothing3.ensures
+    more-needed c.nothing3.result (outline_front bytes) s.args.to.now is c.nothing3.ensures
 
 mul-signed-fields : tie.Need-overflow-mul-signed-fields
 mul-signed-fields c = search rules

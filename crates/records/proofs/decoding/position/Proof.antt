@@ -2,8 +2,8 @@
 use Prim.Native.Nat.{ℕ}
 use mathlib.Core.Path.{◌≡◌, refl, sym, ◌∙◌}
 use mathlib.Core.List.{List}
-use Rattle.records.specs.Layout.{positionFront}
-use Rattle.records.proofs.Fronts.{byWhat, says, more-needed, broken-found, short, enough, what-told, unknown-what}
+use Rattle.records.specs.Layout.{position_front}
+use Rattle.records.proofs.Fronts.{by_what, says, more-needed, broken-found, short, enough, what-told, unknown-what}
 use borrow.Author.Rules.{rules}
 use Rattle.records.proofs.decoding.position.Statement.{statement}
 use Rattle.records.proofs.decoding.position.Tie as tie
@@ -12,7 +12,7 @@ abbrev lent : tie.After-one → List ℕ
 lent c = c.before.before.before.args.bytes.now
 
 -- what stands there, by the byte that was read
-of-what : (c : tie.After-one) (w : ℕ) → c.one.result ≡ w → byWhat w (lent c) ≡ positionFront (lent c)
+of-what : (c : tie.After-one) (w : ℕ) → c.one.result ≡ w → by_what w (lent c) ≡ position_front (lent c)
 of-what c w e = what-told (lent c) w c.before.if1.false (sym e ∙ c.one.ensures.0)
 
 nothing-requires : tie.Need-nothing-requires
@@ -21,7 +21,7 @@ nothing-requires c κs = search rules
 returns : tie.Need-returns
 returns c =
     let bytes = c.before.before.before.args.bytes.now in
-    λ to. more-needed c.nothing.result (positionFront bytes) to (short bytes 8 _ c.before.if1.true) c.nothing.ensures
+    λ to. more-needed c.nothing.result (position_front bytes) to (short bytes 8 _ c.before.if1.true) c.nothing.ensures
 
 one-requires : tie.Need-one-requires
 one-requires c κs = search rules
@@ -55,7 +55,7 @@ returns-5 c =
     let one = c.before.before in
     let none = c.before.match.rest in
     let is = sym (of-what one one.one.result refl) ∙ unknown-what (lent one) one.one.result none.0.0.1 none.0.1 none.1 in
-    λ to. broken-found c.nothing2.result (positionFront (lent one)) to is c.nothing2.ensures
+    λ to. broken-found c.nothing2.result (position_front (lent one)) to is c.nothing2.ensures
 
 pub position-spec : {M : Type 1} → statement M
 position-spec =

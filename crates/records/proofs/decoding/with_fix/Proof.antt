@@ -2,7 +2,7 @@
 use native.Mathlib.Omega.{arith}
 use mathlib.Core.Path.{ap, ◌∙◌}
 use lib.Ieee.{binary64, of_bits}
-use Rattle.records.specs.Layout.{fixFront}
+use Rattle.records.specs.Layout.{fix_front}
 use Rattle.records.proofs.Fronts.{more-needed, short, fix-whole}
 use borrow.Author.Rules.{rules}
 use Rattle.records.proofs.decoding.with_fix.Statement.{statement}
@@ -14,7 +14,7 @@ nothing-requires c κs = search rules
 returns : tie.Need-returns
 returns c =
     let bytes = c.before.before.before.args.bytes.now in
-    λ to. more-needed c.nothing.result (fixFront bytes 8) to (short bytes 24 _ (omega (arith, c.before.if1.true))) c.nothing.ensures
+    λ to. more-needed c.nothing.result (fix_front bytes 8) to (short bytes 24 _ (omega (arith, c.before.if1.true))) c.nothing.ensures
 
 eight-requires : tie.Need-eight-requires
 eight-requires c κs = search rules

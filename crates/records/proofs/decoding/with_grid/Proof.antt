@@ -5,7 +5,7 @@ use mir.Syntax.{w32}
 use mir.Val.{SFits}
 use mir.Facts.{to_z-of_z}
 use Rattle.records.specs.Bytes.{signed}
-use Rattle.records.specs.Layout.{gridFront}
+use Rattle.records.specs.Layout.{grid_front}
 use Rattle.records.proofs.Fronts.{more-needed, short, grid-whole}
 use borrow.Author.Rules.{rules}
 use Rattle.records.proofs.decoding.with_grid.Statement.{statement}
@@ -21,7 +21,7 @@ returns : tie.Need-returns
 returns c =
     let s = c.before.before.before in
     let bytes = s.args.bytes.now in
-    λ to. more-needed c.nothing.result (gridFront bytes s.args.at) to (short bytes (s.args.at + 8) _ c.before.if1.true) c.nothing.ensures
+    λ to. more-needed c.nothing.result (grid_front bytes s.args.at) to (short bytes (s.args.at + 8) _ c.before.if1.true) c.nothing.ensures
 
 four-requires : tie.Need-four-requires
 four-requires c κs = search rules

@@ -9,22 +9,22 @@ use lib.IntN.{ℤ}
 use lib.ListN.{length}
 use borrow.Author.Rules.{rules}
 use borrow.Author.Tests.{eqb-true, eqb-false, ltb-false, not-false}
-use Rattle.ring.specs.Grid.{vertices, someBeyond}
+use Rattle.ring.specs.Grid.{vertices, some_beyond}
 use Rattle.ring.proofs.Pick.{neither_left, neither_right}
 use Rattle.ring.proofs.Vertices.{length-vertices}
-use Rattle.districts.specs.Lists.{outlineSize, meaning}
-use Rattle.districts.specs.Lent.{Lists, lent, outlineOf, store_of, formed, means}
+use Rattle.districts.specs.Lists.{outline_size, meaning}
+use Rattle.districts.specs.Lent.{Lists, lent, outline_of, store_of, formed, means}
 use Rattle.districts.proofs.Sound.{outline-lengths, store-lengths, runs-length}
 use Rattle.districts.proofs.Lent.{outline-in-use}
 use Rattle.refusals.specs.declared.Refusal.{Refusal}
 use Rattle.refusals.specs.Numbers.{number_of}
-use Rattle.refusals.specs.Verdicts.{accept, refuse, verdict, verdictOf}
+use Rattle.refusals.specs.Verdicts.{accept, refuse, verdict, verdict_of}
 use Rattle.refusals.proofs.Verdicts.{accepted}
 use Rattle.room.proofs.Forms as Forms
 use Rattle.room.proofs.Forms.{Sound, Long, sound}
 use Rattle.room.proofs.Written.{numbers-vertices}
 use Rattle.register.specs.declared.Founded.TheVariants.{Done, Refused}
-use Rattle.register.specs.Founding.{foundTests, founded}
+use Rattle.register.specs.Founding.{found_tests, founded}
 use Rattle.register.specs.Calls.{Wrote, FoundBy}
 use Rattle.register.proofs.Founds.{founded-sound, founded-meaning}
 use Rattle.register.proofs.founding.found_known.Statement.{statement}
@@ -36,13 +36,13 @@ lists s = lent s.args.ox.now s.args.oy.now s.args.sx.now s.args.sy.now s.args.ru
 -- what an acceptance tells
 record Free (l : Lists) (xs : List ℤ) (n : ℕ) : Type 0 where
   good : formed l ≡ true
-  none : outlineSize l.runs ≡ 0
+  none : outline_size l.runs ≡ 0
   even : length xs ≡ n + n
   least : 3 ≤ n
   most : n ≤ 2048
-  grid : someBeyond xs ≡ false
+  grid : some_beyond xs ≡ false
 
-free : (l : Lists) (xs : List ℤ) → verdict (foundTests (formed l) (means l) xs) ≡ accept → Free l xs (length xs / 2)
+free : (l : Lists) (xs : List ℤ) → verdict (found_tests (formed l) (means l) xs) ≡ accept → Free l xs (length xs / 2)
 free l xs e =
     let first = accepted 1 _ _ e in
     let second = accepted 3 _ _ first.1 in
@@ -55,7 +55,7 @@ free l xs e =
     let many = ltb-false 2048 (m / 2) (neither_right (ltb (m / 2) 3) _ sizes) in
     record {
       good = not-false _ first.0;
-      none = eqb-true (outlineSize l.runs) 0 (not-false _ (sym (outline-in-use (outlineOf l) (store_of l) l.runs) ∙ second.0));
+      none = eqb-true (outline_size l.runs) 0 (not-false _ (sym (outline-in-use (outline_of l) (store_of l) l.runs) ∙ second.0));
       even = omega arith;
       least = few;
       most = many;
@@ -63,32 +63,32 @@ free l xs e =
     }
 
 -- the two outcomes
-wrote-all : (xs : List ℤ) (n : ℕ) (l after : Lists) → Free l xs n → Long after → verdict (foundTests (formed l) (means l) xs) ≡ accept → Wrote (vertices xs) l after → FoundBy Done xs l after
+wrote-all : (xs : List ℤ) (n : ℕ) (l after : Lists) → Free l xs n → Long after → verdict (found_tests (formed l) (means l) xs) ≡ accept → Wrote (vertices xs) l after → FoundBy Done xs l after
 unfolding founded
 wrote-all xs n l after f long e w =
     let many : length (vertices xs) ≡ n = length-vertices xs n f.even in
     let least = f.least in
     let most = f.most in
     let sure = sound l f.good in
-    let grid = ap someBeyond (numbers-vertices xs n f.even) ∙ f.grid in
+    let grid = ap some_beyond (numbers-vertices xs n f.even) ∙ f.grid in
     let few : 3 ≤ length (vertices xs) = omega (arith, many, least) in
     let fits : length (vertices xs) ≤ 2048 = omega (arith, many, most) in
     record {
       said = sym e;
       left = (
-        Forms.formed after long (transport (λ i. Sound (sym w.outline i) (sym w.store i) (sym w.runs i)) (founded-sound (outlineOf l) (store_of l) l.runs (vertices xs) sure f.none few fits grid)),
-        (λ i. meaning (w.outline i) (w.store i) (w.runs i)) ∙ founded-meaning (outlineOf l) (store_of l) l.runs (vertices xs) sure f.none few fits grid,
+        Forms.formed after long (transport (λ i. Sound (sym w.outline i) (sym w.store i) (sym w.runs i)) (founded-sound (outline_of l) (store_of l) l.runs (vertices xs) sure f.none few fits grid)),
+        (λ i. meaning (w.outline i) (w.store i) (w.runs i)) ∙ founded-meaning (outline_of l) (store_of l) l.runs (vertices xs) sure f.none few fits grid,
       );
     }
 
-left-all : (q : Refusal) (xs : List ℤ) (l : Lists) → verdict (foundTests (formed l) (means l) xs) ≡ refuse (number_of q) → FoundBy (Refused q) xs l l
+left-all : (q : Refusal) (xs : List ℤ) (l : Lists) → verdict (found_tests (formed l) (means l) xs) ≡ refuse (number_of q) → FoundBy (Refused q) xs l l
 left-all q xs l e = record { said = sym e; left = refl }
 
 abbrev start : tie.After-enum-told → tie.Start
 start c = c.before.before.before.before.before.before.before.before.before
 
-told_free : (c : tie.After-enum-told) → let s = start c in verdict (foundTests (formed (lists s)) (means (lists s)) s.args.ring.now) ≡ accept
-told_free c = sym c.before.before.judged.ensures ∙ ap verdictOf c.enum_told.given.1
+told_free : (c : tie.After-enum-told) → let s = start c in verdict (found_tests (formed (lists s)) (means (lists s)) s.args.ring.now) ≡ accept
+told_free c = sym c.before.before.judged.ensures ∙ ap verdict_of c.enum_told.given.1
 
 judged-free : (c : tie.After-enum-told) → let s = start c in Free (lists s) s.args.ring.now (length s.args.ring.now / 2)
 judged-free c = free (lists (start c)) (start c).args.ring.now (told_free c)
@@ -158,7 +158,7 @@ returns-2 c =
     let told = c.before in
     let judged = told.before.before in
     let s = judged.before.before.before.before.before.before.before in
-    left-all _ s.args.ring.now (lists s) (sym judged.judged.ensures ∙ ap verdictOf told.r.given.1)
+    left-all _ s.args.ring.now (lists s) (sym judged.judged.ensures ∙ ap verdict_of told.r.given.1)
 
 pub found-known-spec : {M : Type 1} → statement M
 found-known-spec =

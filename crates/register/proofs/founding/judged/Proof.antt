@@ -9,12 +9,12 @@ use lib.IntN.{ℤ}
 use lib.ListN.{length}
 use borrow.Author.Rules.{rules}
 use borrow.Author.Tests.{eq-eqb, ne_eqb, not-true, not-false}
-use Rattle.ring.specs.Grid.{noRing, someBeyond}
+use Rattle.ring.specs.Grid.{no_ring, some_beyond}
 use Rattle.districts.proofs.Sound.{runs-length}
 use Rattle.refusals.specs.Verdicts.{◌if◌, verdict}
-use Rattle.districts.specs.Register.{inUse}
-use Rattle.register.specs.Founding.{foundTests}
-use Rattle.districts.specs.Lent.{Lists, lent, outlineOf, store_of, formed, means}
+use Rattle.districts.specs.Register.{in_use}
+use Rattle.register.specs.Founding.{found_tests}
+use Rattle.districts.specs.Lent.{Lists, lent, outline_of, store_of, formed, means}
 use Rattle.districts.proofs.Lent.{outline-in-use}
 use Rattle.refusals.proofs.Verdicts.{stops_at, passes, passed-all}
 use Rattle.register.proofs.founding.judged.Statement.{statement}
@@ -34,10 +34,10 @@ outline-size-requires c κs =
     runs-length (given c.before.before) (good c)
 
 -- whether there is an outline is told by its size
-outlined : (c : tie.After-outline-size) (b : Bool) → not (eqb c.outline-size.result 0) ≡ b → inUse (means (given c.before.before.before)).outline ≡ b
+outlined : (c : tie.After-outline-size) (b : Bool) → not (eqb c.outline-size.result 0) ≡ b → in_use (means (given c.before.before.before)).outline ≡ b
 outlined c b e =
     let l = given c.before.before.before in
-    outline-in-use (outlineOf l) (store_of l) l.runs ∙ ap (λ n. not (eqb n 0)) (sym c.outline-size.ensures.0) ∙ e
+    outline-in-use (outline_of l) (store_of l) l.runs ∙ ap (λ n. not (eqb n 0)) (sym c.outline-size.ensures.0) ∙ e
 
 returns-2 : tie.Need-returns-2
 returns-2 c =
@@ -49,7 +49,7 @@ no-ring-requires : tie.Need-no-ring-requires
 no-ring-requires c κs = search rules
 
 -- the first two tests passed
-two-passed : (c : tie.Else2) (xs : List ℤ) → verdict (foundTests (formed (given c.before.before.before.before)) (means (given c.before.before.before.before)) xs) ≡ verdict ((4 if noRing (length xs) (length xs / 2)) ∷ (5 if someBeyond xs) ∷ [])
+two-passed : (c : tie.Else2) (xs : List ℤ) → verdict (found_tests (formed (given c.before.before.before.before)) (means (given c.before.before.before.before)) xs) ≡ verdict ((4 if no_ring (length xs) (length xs / 2)) ∷ (5 if some_beyond xs) ∷ [])
 two-passed c xs =
     passes 1 _ _ (ap not (good c.before.before))
     ∙ passes 3 _ _ (outlined c.before false (ap not (eq-eqb c.before.outline-size.result 0 (omega arith))))

@@ -14,7 +14,7 @@ use Rattle.districts.specs.Lists.{meaning}
 use Rattle.refusals.specs.Verdicts.{accept, verdict}
 use Rattle.register.specs.declared.placing.Spot.{Spot}
 use Rattle.register.specs.Spots.{Spots}
-use Rattle.register.specs.Sorting.{pointTests, given}
+use Rattle.register.specs.Sorting.{point_tests, given}
 use Rattle.register.proofs.Given.{none-begun, some-begun, sorted-by}
 use Rattle.register.proofs.ByPosition.{spot-at-once, spot-nowhere-once, begun_first}
 use Rattle.register.proofs.listing.assign_listed.Statement.{statement}
@@ -62,7 +62,7 @@ returns-2 c outline =
     let s = start seen in
     let r = told.r.given.0.0 in
     c.place-listed.ensures
-    ∙ ap (λ b. given (verdict (pointTests r.x r.y)) (report s.args.number b)) (sorted-by outline (store s) s.args.runs.now s.pre.0.runs-length r)
+    ∙ ap (λ b. given (verdict (point_tests r.x r.y)) (report s.args.number b)) (sorted-by outline (store s) s.args.runs.now s.pre.0.runs-length r)
     ∙ spot-at-once true (meant s outline) s.args.number s.args.position r (spots seen _ told.r.given.1) (begun seen outline)
 
 returns-3 : tie.Need-returns-3

@@ -9,12 +9,12 @@ use Rattle.fixes.specs.declared.Placed.{Placed}
 use Rattle.register.specs.declared.Position.TheVariants.{Fix}
 use Rattle.register.specs.declared.placing.Spot.TheVariants.{At}
 use Rattle.register.specs.Spots.{Spots}
-use Rattle.register.proofs.ByPosition.{spotBy, fix-spot}
+use Rattle.register.proofs.ByPosition.{spot_by, fix-spot}
 use Rattle.register.proofs.placing.spot_of_fix.Statement.{statement}
 use Rattle.register.proofs.placing.spot_of_fix.Tie as tie
 
-by_place : (c : tie.After-millimetres) (p : Placed) → c.millimetres.result ≡ p → Spots (spotBy p) (Fix c.before.args.fix)
-by_place c p e = let fix = c.before.args.fix in subst (λ q. Spots (spotBy q) (Fix fix)) (sym c.millimetres.ensures ∙ e) (fix-spot fix)
+by_place : (c : tie.After-millimetres) (p : Placed) → c.millimetres.result ≡ p → Spots (spot_by p) (Fix c.before.args.fix)
+by_place c p e = let fix = c.before.args.fix in subst (λ q. Spots (spot_by q) (Fix fix)) (sym c.millimetres.ensures ∙ e) (fix-spot fix)
 
 millimetres-requires : tie.Need-millimetres-requires
 millimetres-requires c κs = search rules

@@ -3,13 +3,13 @@ use mathlib.Core.Path.{◌≡◌, sym, ap, ◌∙◌}
 use mathlib.Core.Bool.{true}
 use mir.Facts.{to_z-of_z}
 use borrow.Author.Rules.{rules}
-use Rattle.refusals.specs.Verdicts.{accept, verdict, verdictOf}
+use Rattle.refusals.specs.Verdicts.{accept, verdict, verdict_of}
 use Rattle.ring.specs.Grid.{point}
 use Rattle.districts.specs.Answers.{report}
 use Rattle.districts.specs.Lent.{Lists, lent, formed, means, beginning}
 use Rattle.districts.proofs.Lent.{good-runs}
 use Rattle.districts.proofs.Begun.{begun-formed}
-use Rattle.register.specs.Sorting.{pointTests, given}
+use Rattle.register.specs.Sorting.{point_tests, given}
 use Rattle.register.proofs.Given.{answer-refused, answer-given, sorted-is}
 use Rattle.register.proofs.sorting.assign.Statement.{statement}
 use Rattle.register.proofs.sorting.assign.Tie as tie
@@ -25,7 +25,7 @@ enum_told c = search rules
 
 -- neither 1 nor 2
 begun : (c : tie.After-enum-told) → let s = c.before.before.before.before in verdict (beginning (formed (lists s)) (means (lists s))) ≡ accept
-begun c = sym c.before.before.usable.ensures ∙ ap verdictOf c.enum_told.given.1
+begun c = sym c.before.before.usable.ensures ∙ ap verdict_of c.enum_told.given.1
 
 good : (c : tie.After-enum-told) → formed (lists c.before.before.before.before) ≡ true
 good c =
@@ -44,7 +44,7 @@ returns c =
     let s = told.before.before.before.before in
     let a = s.args in
     c.place.ensures
-    ∙ (λ i. given (verdict (pointTests (to_z-of_z s.ranges.x i) (to_z-of_z s.ranges.y i))) (report a.number (sorted-is (lists s) (good told) (point (to_z-of_z s.ranges.x i) (to_z-of_z s.ranges.y i)) i)))
+    ∙ (λ i. given (verdict (point_tests (to_z-of_z s.ranges.x i) (to_z-of_z s.ranges.y i))) (report a.number (sorted-is (lists s) (good told) (point (to_z-of_z s.ranges.x i) (to_z-of_z s.ranges.y i)) i)))
     ∙ answer-given (formed (lists s)) (means (lists s)) a.number a.x a.y (begun told)
 
 returns-2 : tie.Need-returns-2
@@ -52,7 +52,7 @@ returns-2 c =
     let refused = c.before in
     let used = refused.before.before in
     let s = used.before.before in
-    answer-refused (formed (lists s)) (means (lists s)) s.args.number s.args.x s.args.y _ (sym used.usable.ensures ∙ ap verdictOf refused.r.given.1)
+    answer-refused (formed (lists s)) (means (lists s)) s.args.number s.args.x s.args.y _ (sym used.usable.ensures ∙ ap verdict_of refused.r.given.1)
 
 pub assign-spec : {M : Type 1} → statement M
 assign-spec =

@@ -1,7 +1,7 @@
 -- `register::sorting::lies_to_ring` walks along a ring that neither line misses. Assumes nothing.
 use mathlib.Core.Path.{ap, subst}
 use Rattle.ring.specs.Columns.{points}
-use Rattle.ring.specs.Locate.{locatedOn}
+use Rattle.ring.specs.Locate.{located_on}
 use Rattle.columns.specs.Missing.{Misses}
 use Rattle.register.specs.Sorting.{rests, winds}
 use Rattle.register.specs.Standing.{Stands}
@@ -28,7 +28,7 @@ returns : tie.Need-returns
 returns c =
     let told = c.before.before.before in
     let a = told.before.args in
-    let off = subst (λ m. Misses m (locatedOn (points a.xs.now a.ys.now) a.r)) c.before.row.given.1 told.missing.ensures in
+    let off = subst (λ m. Misses m (located_on (points a.xs.now a.ys.now) a.r)) c.before.row.given.1 told.missing.ensures in
     (ap rests off, ap winds off)
 
 returns-2 : tie.Need-returns-2

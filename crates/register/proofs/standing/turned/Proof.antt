@@ -10,12 +10,12 @@ use mir.Syntax.{w32}
 use mir.Val.{SFits}
 use mir.Facts.{to_z-of_z}
 use borrow.Author.Tests.{lt-ltb, le-ltb}
-use Rattle.exact.specs.Sign.{eqZ}
+use Rattle.exact.specs.Sign.{eq_z}
 use borrow.Author.Rules.{rules}
 use Rattle.register.proofs.standing.turned.Statement.{statement}
 use Rattle.register.proofs.standing.turned.Tie as tie
 
-other : (z : ℤ) → (lt_z z (pos 0) || lt_z (pos 0) z) ≡ not (eqZ z (pos 0))
+other : (z : ℤ) → (lt_z z (pos 0) || lt_z (pos 0) z) ≡ not (eq_z z (pos 0))
 other (pos zero) = refl
 other (pos (suc n)) = (λ i. le-ltb (suc n) 0 (omega arith) i || lt-ltb 0 (suc n) (omega arith) i) ∙ (λ i. not (sym (eqb-suc-zero n) i))
 other (negsuc n) = refl

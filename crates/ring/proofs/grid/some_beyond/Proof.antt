@@ -13,13 +13,13 @@ use mir.Syntax.{w32}
 use mir.Val.{SFits}
 use mir.Facts.{to_z-of_z}
 use borrow.Author.Rules.{rules}
-use Rattle.ring.specs.Grid.{beyond, someBeyond}
+use Rattle.ring.specs.Grid.{beyond, some_beyond}
 use Rattle.ring.proofs.grid.some_beyond.Statement.{statement}
 use Rattle.ring.proofs.grid.some_beyond.Tie as tie
 
 record Looked (list : List ℤ) (found : Bool) (i : ℕ) : Type 0 where
   le : i ≤ length list
-  so_far : someBeyond list ≡ (found || someBeyond (drop i list))
+  so_far : some_beyond list ≡ (found || some_beyond (drop i list))
 
 or_assoc : (a b c : Bool) → (a || (b || c)) ≡ ((a || b) || c)
 or_assoc true b c = refl
@@ -34,13 +34,13 @@ more list found i l h = record {
   le = omega arith;
   so_far =
       l.so_far
-      ∙ ap (λ xs. found || someBeyond xs) (drop-cons list i (pos 0) h)
-      ∙ or_assoc found (beyond (get_or list i (pos 0))) (someBeyond (drop (suc i) list))
-      ∙ ap (λ k. (found || beyond (get_or list i (pos 0))) || someBeyond (drop k list)) (sym (add-one i));
+      ∙ ap (λ xs. found || some_beyond xs) (drop-cons list i (pos 0) h)
+      ∙ or_assoc found (beyond (get_or list i (pos 0))) (some_beyond (drop (suc i) list))
+      ∙ ap (λ k. (found || beyond (get_or list i (pos 0))) || some_beyond (drop k list)) (sym (add-one i));
 }
 
-all : (list : List ℤ) (found : Bool) (i : ℕ) → Looked list found i → length list ≤ i → found ≡ someBeyond list
-all list found i l h = sym (l.so_far ∙ ap (λ xs. found || someBeyond xs) (drop_of_length-le list h) ∙ or-false found)
+all : (list : List ℤ) (found : Bool) (i : ℕ) → Looked list found i → length list ≤ i → found ≡ some_beyond list
+all list found i l h = sym (l.so_far ∙ ap (λ xs. found || some_beyond xs) (drop_of_length-le list h) ∙ or-false found)
 
 abbrev invariant-loop : tie.invariant-loop
 invariant-loop list found₀ i₀ found i = Looked list found i

@@ -4,12 +4,12 @@ use native.Mathlib.Omega.{arith}
 use mathlib.Core.Path.{sym, ◌∙◌}
 use borrow.Author.Rules.{rules}
 use Rattle.ring.proofs.Search.{Unmet, unmet-none}
-use Rattle.ring.proofs.Within.{beyondAt, four-more, four-found, four-all}
+use Rattle.ring.proofs.Within.{beyond_at, four-more, four-found, four-all}
 use Rattle.ring.proofs.grid.some_beyond_short.Statement.{statement}
 use Rattle.ring.proofs.grid.some_beyond_short.Tie as tie
 
 abbrev invariant-loop : tie.invariant-loop
-invariant-loop list last i₀ i = (i < last + 4) × Unmet (beyondAt list) i
+invariant-loop list last i₀ i = (i < last + 4) × Unmet (beyond_at list) i
 
 abbrev decreases-loop : tie.decreases-loop
 decreases-loop list last i₀ i = last + 4 - i

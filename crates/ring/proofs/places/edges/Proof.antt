@@ -12,7 +12,7 @@ use Rattle.ring.specs.declared.Point.{Point}
 use Rattle.ring.specs.declared.places.Span.{Span}
 use Rattle.ring.specs.Grid.{vertices}
 use Rattle.ring.specs.Rings.{at}
-use Rattle.ring.specs.Locate.{onEdge}
+use Rattle.ring.specs.Locate.{on_edge}
 use Rattle.ring.specs.Walk.{head_of, Way}
 use Rattle.ring.proofs.Vertices.{length-vertices, at-end}
 use Rattle.ring.proofs.Walks.{ready-clean}
@@ -22,7 +22,7 @@ use Rattle.ring.proofs.places.edges.Tie as tie
 
 record Walked (xs : List ℤ) (n : ℕ) (R : Point) (s : Span) (from : Arrow) (e : ℕ) : Type 0 where
   within : e < n
-  met : Spans (onEdge (vertices xs) R) n e s
+  met : Spans (on_edge (vertices xs) R) n e s
   way : Way R (at (vertices xs) e) from
 
 abbrev invariant-loop : tie.invariant-loop
@@ -73,7 +73,7 @@ loop-again c =
     let to : Way (head_of a.r) (at P (suc e)) c.before.way2.result = subst (λ (k : ℕ). Way (head_of a.r) (at P k) c.before.way2.result) (add-one e) c.before.way2.ensures in
     record {
       within = c.before.before.loop-test.true;
-      met = subst (λ (k : ℕ). Spans (onEdge P (head_of a.r)) a.n k c.along.result) (sym (add-one e)) (spans-edge P (head_of a.r) a.n e turn.loop.met c.along.result _ _ turn.loop.invariant.within turn.loop.invariant.way to turn.loop.invariant.met c.along.ensures);
+      met = subst (λ (k : ℕ). Spans (on_edge P (head_of a.r)) a.n k c.along.result) (sym (add-one e)) (spans-edge P (head_of a.r) a.n e turn.loop.met c.along.result _ _ turn.loop.invariant.within turn.loop.invariant.way to turn.loop.invariant.met c.along.ensures);
       way = c.before.way2.ensures;
     }
 
@@ -95,7 +95,7 @@ returns c =
     let last : suc e ≡ a.n = omega (arith, turn.loop.invariant.within, c.before.before.loop-test.false) in
     let round : at P 0 ≡ at P (suc e) = sym (at-end P (omega (arith, size start, start.requires.least))) ∙ ap (at P) (size start ∙ sym last) in
     let to : Way (head_of a.r) (at P (suc e)) c.before.way3.result = subst (λ Q. Way (head_of a.r) Q c.before.way3.result) round c.before.way3.ensures in
-    spans_all (onEdge P (head_of a.r)) a.n c.along2.result (subst (λ (k : ℕ). Spans (onEdge P (head_of a.r)) a.n k c.along2.result) last (spans-edge P (head_of a.r) a.n e turn.loop.met c.along2.result _ _ turn.loop.invariant.within turn.loop.invariant.way to turn.loop.invariant.met c.along2.ensures))
+    spans_all (on_edge P (head_of a.r)) a.n c.along2.result (subst (λ (k : ℕ). Spans (on_edge P (head_of a.r)) a.n k c.along2.result) last (spans-edge P (head_of a.r) a.n e turn.loop.met c.along2.result _ _ turn.loop.invariant.within turn.loop.invariant.way to turn.loop.invariant.met c.along2.ensures))
 
 pub edges_spec : {M : Type 1} → statement M
 edges_spec =

@@ -8,7 +8,7 @@ use borrow.Author.Tests.{lt-ltb, le-ltb}
 use Rattle.ring.specs.declared.Point.{Point}
 use Rattle.ring.specs.declared.places.Span.{Span}
 use Rattle.ring.specs.Grid.{vertices}
-use Rattle.ring.specs.Locate.{lowest, highest, atVertex}
+use Rattle.ring.specs.Locate.{lowest, highest, at_vertex}
 use Rattle.ring.specs.Walk.{head_of, Ready}
 use Rattle.ring.proofs.Pick.{pick_true, pick-false}
 use Rattle.ring.proofs.places.find.Statement.{statement}
@@ -26,14 +26,14 @@ lowest-vertex-requires c κs = ready c
 highest-vertex-requires : tie.Need-highest-vertex-requires
 highest-vertex-requires c κs = ready c.before.before
 
-low : (c : tie.After-lowest-vertex) → c.lowest-vertex.result ≡ lowest (atVertex (vertices c.before.before.args.ring.now) (head_of c.before.before.args.r)) c.before.before.args.n 0
-low c = let a = c.before.before.args in c.lowest-vertex.ensures ∙ ap (λ (R : Point). lowest (atVertex (vertices a.ring.now) R) a.n 0) c.before.narrow.ensures
+low : (c : tie.After-lowest-vertex) → c.lowest-vertex.result ≡ lowest (at_vertex (vertices c.before.before.args.ring.now) (head_of c.before.before.args.r)) c.before.before.args.n 0
+low c = let a = c.before.before.args in c.lowest-vertex.ensures ∙ ap (λ (R : Point). lowest (at_vertex (vertices a.ring.now) R) a.n 0) c.before.narrow.ensures
 
 returns : tie.Need-returns
 returns c =
     let found = c.before.before in
     let a = found.before.before.args in
-    let high : c.highest-vertex.result ≡ highest (atVertex (vertices a.ring.now) (head_of a.r)) a.n = c.highest-vertex.ensures ∙ ap (λ (R : Point). highest (atVertex (vertices a.ring.now) R) a.n) found.before.narrow.ensures in
+    let high : c.highest-vertex.result ≡ highest (at_vertex (vertices a.ring.now) (head_of a.r)) a.n = c.highest-vertex.ensures ∙ ap (λ (R : Point). highest (at_vertex (vertices a.ring.now) R) a.n) found.before.narrow.ensures in
     (λ i. record { vertex = true; at = record { lowest = low found i; highest = high i } })
     ∙ sym (pick_true (ap (λ (v : ℕ). ltb v a.n) (sym (low found)) ∙ lt-ltb _ a.n c.before.if1.true) _ _)
 

@@ -7,7 +7,7 @@ use mir.Syntax.{w64}
 use mir.Val.{SFits}
 use mir.Facts.{to_z-of_z}
 use borrow.Author.Rules.{rules}
-use Rattle.exact.specs.Sign.{eqZ, cross}
+use Rattle.exact.specs.Sign.{eq_z, cross}
 use Rattle.ring.specs.Segment.{between}
 use Rattle.ring.proofs.Quadrants.{zero-order}
 use Rattle.ring.proofs.places.holds.Statement.{statement}
@@ -17,8 +17,8 @@ determinant-requires : tie.Need-determinant-requires
 determinant-requires c κs = search rules
 
 -- the first test is whether the determinant is 0
-in-line : (c : tie.After-determinant) → le_z c.determinant.result.0 (pos 0) && le_z (pos 0) c.determinant.result.0 ≡ eqZ (cross c.before.args.from c.before.args.to) (pos 0)
-in-line c = zero-order c.determinant.result.0 ∙ ap (λ (d : ℤ). eqZ d (pos 0)) c.determinant.ensures
+in-line : (c : tie.After-determinant) → le_z c.determinant.result.0 (pos 0) && le_z (pos 0) c.determinant.result.0 ≡ eq_z (cross c.before.args.from c.before.args.to) (pos 0)
+in-line c = zero-order c.determinant.result.0 ∙ ap (λ (d : ℤ). eq_z d (pos 0)) c.determinant.ensures
 
 beside-requires : tie.Need-beside-requires
 beside-requires c κs = search rules

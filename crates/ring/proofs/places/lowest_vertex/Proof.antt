@@ -5,13 +5,13 @@ use mathlib.Core.Path.{◌≡◌, sym, ap, ◌∙◌}
 use borrow.Author.Rules.{rules}
 use Rattle.ring.specs.Grid.{vertices}
 use Rattle.ring.specs.Segment.{same}
-use Rattle.ring.specs.Locate.{atVertex}
+use Rattle.ring.specs.Locate.{at_vertex}
 use Rattle.ring.proofs.Search.{Unmet, unmet-none, unmet-more, unmet-hit, unmet-all}
 use Rattle.ring.proofs.places.lowest_vertex.Statement.{statement}
 use Rattle.ring.proofs.places.lowest_vertex.Tie as tie
 
 abbrev invariant-loop : tie.invariant-loop
-invariant-loop ring n r v₀ v = Unmet (atVertex (vertices ring) r) v
+invariant-loop ring n r v₀ v = Unmet (at_vertex (vertices ring) r) v
 
 abbrev decreases-loop : tie.decreases-loop
 decreases-loop ring n r v₀ v = n - v
@@ -26,7 +26,7 @@ same-requires : tie.Need-same-requires invariant-loop decreases-loop
 same-requires c κs = search rules
 
 -- the test was of vertex v
-tested : (c : tie.After-same invariant-loop decreases-loop) → atVertex (vertices c.before.before.before.before.args.ring.now) c.before.before.before.before.args.r c.before.before.before.loop.v ≡ c.same.result
+tested : (c : tie.After-same invariant-loop decreases-loop) → at_vertex (vertices c.before.before.before.before.args.ring.now) c.before.before.before.before.args.r c.before.before.before.loop.v ≡ c.same.result
 tested c = sym (c.same.ensures ∙ ap (same c.before.before.before.before.args.r) c.before.vertex.ensures)
 
 returns : tie.Need-returns invariant-loop decreases-loop

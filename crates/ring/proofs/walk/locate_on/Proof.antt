@@ -5,7 +5,7 @@ use mathlib.Core.Path.{◌≡◌, sym, ap, subst, ◌∙◌}
 use lib.ListN.{length, take}
 use borrow.Author.Rules.{rules}
 use Rattle.ring.specs.Grid.{vertices}
-use Rattle.ring.specs.Walk.{head_of, Ready, metAt}
+use Rattle.ring.specs.Walk.{head_of, Ready, met_at}
 use Rattle.ring.proofs.Vertices.{length-vertices}
 use Rattle.ring.proofs.Settled.{part-whole, clear-off, settled}
 use Rattle.ring.proofs.walk.locate_on.Statement.{statement}
@@ -50,7 +50,7 @@ returns c =
     let counted = widened.before.before.before.before in
     let start = counted.before in
     let xs = start.args.ring.now in
-    let met = c.before.find.ensures ∙ (λ i. metAt (vertices (whole start i)) (widened.wide.ensures i) start.args.n) in
+    let met = c.before.find.ensures ∙ (λ i. met_at (vertices (whole start i)) (widened.wide.ensures i) start.args.n) in
     c.found.ensures ∙ settled (vertices xs) start.args.r counted.blocks2.result counted.blocks2.ensures start.args.n c.before.find.result (size start) met
 
 off-requires : tie.Need-off-requires

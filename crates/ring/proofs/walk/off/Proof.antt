@@ -8,12 +8,12 @@ use borrow.Author.Rules.{rules}
 use Rattle.exact.proofs.Bounds.{within-fits, narrow-fits}
 use Rattle.ring.specs.Locate.{off}
 use Rattle.ring.specs.Turns.{oddly}
-use Rattle.ring.specs.Walk.{mostTurns}
+use Rattle.ring.specs.Walk.{most_turns}
 use Rattle.ring.proofs.walk.off.Statement.{statement}
 use Rattle.ring.proofs.walk.off.Tie as tie
 
 small : (c : tie.Start) → SFits w32 c.args.c.turns
-small c = within-fits w32 c.args.c.turns mostTurns c.requires tt
+small c = within-fits w32 c.args.c.turns most_turns c.requires tt
 
 cast-t3 : tie.Need-overflow-cast-t3
 cast-t3 c =

@@ -5,7 +5,7 @@ use Rattle.ring.specs.Columns.{points}
 use Rattle.districts.specs.Lists.{part}
 use Rattle.districts.specs.Lent.{written}
 use Rattle.districts.proofs.Lent.{cut-points}
-use Rattle.room.specs.Writing.{numbersOf}
+use Rattle.room.specs.Writing.{numbers_of}
 use borrow.Author.Rules.{rules}
 use Rattle.room.proofs.pieces.copy_ring.Statement.{statement}
 use Rattle.room.proofs.pieces.copy_ring.Tie as tie
@@ -62,7 +62,7 @@ returns c =
     let n = many.size.ensures.0 in (
       omega (arith, n),
       done.interleave.ensures
-          ∙ ap (λ P. written (numbersOf P) a.to.now) (cut-points a.sx.now a.sy.now place.first-place.result many.size.result ∙ (λ t. part (points a.sx.now a.sy.now) (f t) (n t))),
+          ∙ ap (λ P. written (numbers_of P) a.to.now) (cut-points a.sx.now a.sy.now place.first-place.result many.size.result ∙ (λ t. part (points a.sx.now a.sy.now) (f t) (n t))),
     )
 
 pub copy-ring-spec : {M : Type 1} → statement M

@@ -10,13 +10,13 @@ use mir.Facts.{to_z-of_z}
 use borrow.Author.Rules.{rules}
 use Rattle.ring.specs.Columns.{points}
 use Rattle.ring.proofs.Columns.{length-points}
-use Rattle.room.specs.Writing.{numbersOf}
+use Rattle.room.specs.Writing.{numbers_of}
 use Rattle.room.proofs.Written.{numbers-length, Writing, writing-none, pair-more, writing-all}
 use Rattle.room.proofs.pieces.interleave.Statement.{statement}
 use Rattle.room.proofs.pieces.interleave.Tie as tie
 
 abbrev invariant-loop : tie.invariant-loop
-invariant-loop to₀ xs ys k₀ to k = Writing (numbersOf (points xs ys)) to₀ to (k + k) × (length to ≡ length to₀)
+invariant-loop to₀ xs ys k₀ to k = Writing (numbers_of (points xs ys)) to₀ to (k + k) × (length to ≡ length to₀)
 
 abbrev decreases-loop : tie.decreases-loop
 decreases-loop to₀ xs ys k₀ to k = length xs - k
@@ -81,7 +81,7 @@ same_length c = c.before.loop.invariant.1
 returns : tie.Need-returns invariant-loop decreases-loop
 returns c =
     let a = c.before.before.args in
-    let many : length (numbersOf (points a.xs.now a.ys.now)) ≤ c.before.loop.k + c.before.loop.k = omega (arith, numbers-length (points a.xs.now a.ys.now), length-points a.xs.now a.ys.now c.before.before.requires.0, c.loop-test.false) in
+    let many : length (numbers_of (points a.xs.now a.ys.now)) ≤ c.before.loop.k + c.before.loop.k = omega (arith, numbers-length (points a.xs.now a.ys.now), length-points a.xs.now a.ys.now c.before.before.requires.0, c.loop-test.false) in
     writing-all _ _ _ _ many c.before.loop.invariant.0
 
 pub interleave-spec : {M : Type 1} → statement M

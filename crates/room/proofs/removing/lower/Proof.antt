@@ -11,7 +11,7 @@ use lib.ListN.{length, get_or, set, length-set}
 use lib.Seq.{get_or-set_same, get_or-set_other}
 use borrow.Author.Rules.{rules}
 use Rattle.ring.specs.Choices.{pick}
-use Rattle.districts.specs.Lists.{firstPlace}
+use Rattle.districts.specs.Lists.{first_place}
 use Rattle.room.specs.Writing.{Lowered}
 use Rattle.room.proofs.removing.lower.Statement.{statement}
 use Rattle.room.proofs.removing.lower.Tie as tie
@@ -19,10 +19,10 @@ use Rattle.room.proofs.removing.lower.Tie as tie
 record Lowering (runs₀ : List ℕ) (end n : ℕ) (runs : List ℕ) (e : ℕ) : Type 0 where
   le : e ≤ 64
   long : length runs ≡ length runs₀
-  done : (k : ℕ) → k < e → firstPlace runs k ≡ pick (leb end (firstPlace runs₀ k)) (firstPlace runs₀ k - n) (firstPlace runs₀ k)
+  done : (k : ℕ) → k < e → first_place runs k ≡ pick (leb end (first_place runs₀ k)) (first_place runs₀ k - n) (first_place runs₀ k)
   others : (k : ℕ) → (k ≡ 0) ⊎ (e < k) → get_or runs k 0 ≡ get_or runs₀ k 0
 
-lowering-more : (runs₀ : List ℕ) (end n : ℕ) (runs : List ℕ) (e v : ℕ) → length runs₀ ≡ 129 → e < 64 → v ≡ pick (leb end (firstPlace runs e)) (firstPlace runs e - n) (firstPlace runs e) → Lowering runs₀ end n runs e → Lowering runs₀ end n (set runs (1 + e) v) (e + 1)
+lowering-more : (runs₀ : List ℕ) (end n : ℕ) (runs : List ℕ) (e v : ℕ) → length runs₀ ≡ 129 → e < 64 → v ≡ pick (leb end (first_place runs e)) (first_place runs e - n) (first_place runs e) → Lowering runs₀ end n runs e → Lowering runs₀ end n (set runs (1 + e) v) (e + 1)
 lowering-more runs₀ end n runs e v long h f l = record {
   le = omega arith;
   long = length-set runs (1 + e) v ∙ l.long;
@@ -30,12 +30,12 @@ lowering-more runs₀ end n runs e v long h f l = record {
   others = others;
 }
   where
-    same : firstPlace runs e ≡ firstPlace runs₀ e
+    same : first_place runs e ≡ first_place runs₀ e
     same = l.others (1 + e) (inr (omega arith))
 
-    done : (k : ℕ) → k < e + 1 → firstPlace (set runs (1 + e) v) k ≡ pick (leb end (firstPlace runs₀ k)) (firstPlace runs₀ k - n) (firstPlace runs₀ k)
+    done : (k : ℕ) → k < e + 1 → first_place (set runs (1 + e) v) k ≡ pick (leb end (first_place runs₀ k)) (first_place runs₀ k - n) (first_place runs₀ k)
     done k i = elim (ℕ_discrete k e) [
-      | yes s ↦ ap (firstPlace (set runs (1 + e) v)) s ∙ get_or-set_same runs (1 + e) v 0 (omega (arith, l.long)) ∙ f ∙ ap (λ p. pick (leb end p) (p - n) p) (same ∙ ap (firstPlace runs₀) (sym s))
+      | yes s ↦ ap (first_place (set runs (1 + e) v)) s ∙ get_or-set_same runs (1 + e) v 0 (omega (arith, l.long)) ∙ f ∙ ap (λ p. pick (leb end p) (p - n) p) (same ∙ ap (first_place runs₀) (sym s))
       | no s ↦ get_or-set_other runs (1 + e) (1 + k) v 0 (λ (g : 1 + k ≡ 1 + e). omega arith) ∙ l.done k (omega arith)
     ]
 

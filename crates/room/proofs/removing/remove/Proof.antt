@@ -10,7 +10,7 @@ use borrow.Author.Rules.{rules}
 use Rattle.ring.specs.declared.Point.{Point}
 use Rattle.ring.specs.Columns.{points}
 use Rattle.ring.proofs.Columns.{length-points, points-take, points-drop, points-append, same-take, same_drop}
-use Rattle.districts.specs.Lists.{firstPlace, size, part}
+use Rattle.districts.specs.Lists.{first_place, size, part}
 use Rattle.districts.specs.WellFormed.{total}
 use Rattle.room.specs.Writing.{closed, Lowered, Left}
 use Rattle.room.proofs.removing.remove.Statement.{statement}
@@ -60,11 +60,11 @@ both-closed xs ys a b c e =
     ++ sym (points-drop (a + (c - b)) xs ys) i)
 
 removed : (store : List Point) (runs : List ℕ) (d : ℕ) (runs₁ : List ℕ) → length store ≡ 2048 → length runs ≡ 129 → d < 64
-    → firstPlace runs d + size runs d ≤ total runs → total runs ≤ 2048 → Lowered runs (firstPlace runs d + size runs d) (size runs d) runs₁
-    → Left store runs d (closed store (firstPlace runs d) (firstPlace runs d + size runs d) (total runs)) (set runs₁ (65 + d) 0)
+    → first_place runs d + size runs d ≤ total runs → total runs ≤ 2048 → Lowered runs (first_place runs d + size runs d) (size runs d) runs₁
+    → Left store runs d (closed store (first_place runs d) (first_place runs d + size runs d) (total runs)) (set runs₁ (65 + d) 0)
 unfolding now
 removed store runs d runs₁ a b h fits most l =
-    let f = firstPlace runs d in
+    let f = first_place runs d in
     let n = size runs d in
     let t = total runs in
     let room : t ≤ length store = omega arith in

@@ -4,10 +4,10 @@ use mathlib.Core.Path.{◌≡◌, refl, sym, ap, ◌∙◌}
 use lib.ListN.{length}
 use borrow.Author.Rules.{rules}
 use Rattle.wording.specs.Lines.{outline, split, merge}
-use Rattle.records.specs.Decoding.{frontOf}
-use Rattle.stream.specs.Replies.{talliedBy}
+use Rattle.records.specs.Decoding.{front_of}
+use Rattle.stream.specs.Replies.{tallied_by}
 use Rattle.stream.specs.Advancing.{answered}
-use Rattle.districts.specs.Lent.{Lists, lent, outlineOf}
+use Rattle.districts.specs.Lent.{Lists, lent, outline_of}
 use Rattle.districts.proofs.Lent.{good-runs}
 use Rattle.index.proofs.Fitting.{stale-fits}
 use Rattle.stream.proofs.Taking.{advanced, reported-told, reported-tally, outline-fits, path-fits}
@@ -32,7 +32,7 @@ outline-requires c κs =
     let read = front.before.before in
     let long : length read.decode.new.1.0 ≡ 4096 = search rules in
     let n = front.front.given.0.0 in
-    let fits = outline-fits (start read).args.bytes.now read.decode.new.1.0 read.decode.result.taken n (sym (ap (λ q. frontOf q read.decode.result.taken read.decode.new.1.0) front.front.given.1) ∙ read.decode.ensures.said) in
+    let fits = outline-fits (start read).args.bytes.now read.decode.new.1.0 read.decode.result.taken n (sym (ap (λ q. front_of q read.decode.result.taken read.decode.new.1.0) front.front.given.1) ∙ read.decode.ensures.said) in
     (omega (arith, long, fits), (start read).requires.0)
 
 stale-requires : tie.Need-stale-requires
@@ -47,7 +47,7 @@ split-requires c κs =
     let read = front.before.before in
     let long : length read.decode.new.1.0 ≡ 4096 = search rules in
     let n = front.front2.given.0.1.1.1.0 in
-    let fits = path-fits (start read).args.bytes.now read.decode.new.1.0 read.decode.result.taken _ _ _ n (sym (ap (λ q. frontOf q read.decode.result.taken read.decode.new.1.0) front.front2.given.1) ∙ read.decode.ensures.said) in
+    let fits = path-fits (start read).args.bytes.now read.decode.new.1.0 read.decode.result.taken _ _ _ n (sym (ap (λ q. front_of q read.decode.result.taken read.decode.new.1.0) front.front2.given.1) ∙ read.decode.ensures.said) in
     (omega (arith, long, fits), (start read).requires.0)
 
 stale-requires-2 : tie.Need-stale-requires-2
@@ -90,12 +90,12 @@ same-length-5 : tie.Need-same-length-5
 same-length-5 c = search rules
 
 returns : tie.Need-returns
-unfolding talliedBy
+unfolding tallied_by
 returns c =
     let called = c.before.before.before.before.before.before.before in
     let front = called.before.before.before.before.before.before.before.before.before in
     let read = front.before.before in (
-      advanced read.decode.result _ _ _ _ _ _ _ _ read.decode.ensures (ap (λ q. frontOf q read.decode.result.taken read.decode.new.1.0) front.front.given.1) refl (ap (answered outline) (called.outline.ensures.answer (start read).args.tally)) refl called.outline.ensures.left,
+      advanced read.decode.result _ _ _ _ _ _ _ _ read.decode.ensures (ap (λ q. front_of q read.decode.result.taken read.decode.new.1.0) front.front.given.1) refl (ap (answered outline) (called.outline.ensures.answer (start read).args.tally)) refl called.outline.ensures.left,
       stale-fits _ _ _ _ _ _ _ _ _ (start read).requires.1 c.stale.ensures,
     )
 
@@ -115,12 +115,12 @@ same-length-10 : tie.Need-same-length-10
 same-length-10 c = search rules
 
 returns-2 : tie.Need-returns-2
-unfolding talliedBy
+unfolding tallied_by
 returns-2 c =
     let called = c.before.before.before.before.before in
     let front = called.before.before.before.before.before.before.before.before.before in
     let read = front.before.before in (
-      advanced read.decode.result _ _ _ _ _ _ _ _ read.decode.ensures (ap (λ q. frontOf q read.decode.result.taken read.decode.new.1.0) front.front2.given.1) refl (ap (answered split) (called.split.ensures.answer (start read).args.tally)) refl called.split.ensures.left,
+      advanced read.decode.result _ _ _ _ _ _ _ _ read.decode.ensures (ap (λ q. front_of q read.decode.result.taken read.decode.new.1.0) front.front2.given.1) refl (ap (answered split) (called.split.ensures.answer (start read).args.tally)) refl called.split.ensures.left,
       stale-fits _ _ _ _ _ _ _ _ _ (start read).requires.1 c.stale2.ensures,
     )
 
@@ -140,12 +140,12 @@ same-length-15 : tie.Need-same-length-15
 same-length-15 c = search rules
 
 returns-3 : tie.Need-returns-3
-unfolding talliedBy
+unfolding tallied_by
 returns-3 c =
     let called = c.before.before.before.before.before in
     let front = called.before.before.before.before.before.before.before in
     let read = front.before.before in (
-      advanced read.decode.result _ _ _ _ _ _ _ _ read.decode.ensures (ap (λ q. frontOf q read.decode.result.taken read.decode.new.1.0) front.front3.given.1) refl (ap (answered merge) (called.merge.ensures.answer (start read).args.tally)) refl called.merge.ensures.left,
+      advanced read.decode.result _ _ _ _ _ _ _ _ read.decode.ensures (ap (λ q. front_of q read.decode.result.taken read.decode.new.1.0) front.front3.given.1) refl (ap (answered merge) (called.merge.ensures.answer (start read).args.tally)) refl called.merge.ensures.left,
       stale-fits _ _ _ _ _ _ _ _ _ (start read).requires.1 c.stale3.ensures,
     )
 
@@ -163,21 +163,21 @@ returns-4 c =
     let front = c.before.before.before.before.before.before.before.before.before in
     let read = front.before.before in
     let l = lists read in
-    let said = c.report.ensures.0 (outlineOf l) in
+    let said = c.report.ensures.0 (outline_of l) in
     let good = (start read).requires.0 in (
-      advanced read.decode.result _ _ _ _ _ _ _ _ read.decode.ensures (ap (λ q. frontOf q read.decode.result.taken read.decode.new.1.0) front.front4.given.1) said.taken (reported-told _ _ _ _ _ l good said) (reported-tally _ _ _ _ _ l good said) refl,
+      advanced read.decode.result _ _ _ _ _ _ _ _ read.decode.ensures (ap (λ q. front_of q read.decode.result.taken read.decode.new.1.0) front.front4.given.1) said.taken (reported-told _ _ _ _ _ l good said) (reported-tally _ _ _ _ _ l good said) refl,
       c.report.ensures.1,
     )
 
 returns-5 : tie.Need-returns-5
 returns-5 c =
     let read = c.before.before in
-    (advanced read.decode.result _ _ _ _ _ _ _ _ read.decode.ensures (ap (λ q. frontOf q read.decode.result.taken read.decode.new.1.0) c.enum_told.given.1) refl refl refl refl, (start read).requires.1)
+    (advanced read.decode.result _ _ _ _ _ _ _ _ read.decode.ensures (ap (λ q. front_of q read.decode.result.taken read.decode.new.1.0) c.enum_told.given.1) refl refl refl refl, (start read).requires.1)
 
 returns-6 : tie.Need-returns-6
 returns-6 c =
     let read = c.before.before in
-    (advanced read.decode.result _ _ _ _ _ _ _ _ read.decode.ensures (ap (λ q. frontOf q read.decode.result.taken read.decode.new.1.0) c.enum-told2.given.1) refl refl refl refl, (start read).requires.1)
+    (advanced read.decode.result _ _ _ _ _ _ _ _ read.decode.ensures (ap (λ q. front_of q read.decode.result.taken read.decode.new.1.0) c.enum-told2.given.1) refl refl refl refl, (start read).requires.1)
 
 pub advance-spec : {M : Type 1} → statement M
 advance-spec =

@@ -3,7 +3,7 @@ use mathlib.Core.Path.{refl, ap, ◌∙◌}
 use borrow.Author.Rules.{rules}
 use Rattle.tally.specs.Tally.{tallied, answered}
 use Rattle.wording.specs.Lines.{report}
-use Rattle.stream.specs.Replies.{belonging, replied, talliedBy}
+use Rattle.stream.specs.Replies.{belonging, replied, tallied_by}
 use Rattle.stream.specs.Advancing as Told
 use Rattle.stream.proofs.calling.report.Statement.{statement}
 use Rattle.stream.proofs.calling.report.Tie as tie
@@ -24,7 +24,7 @@ assigned-requires : tie.Need-assigned-requires
 assigned-requires c κs = search rules
 
 returns : tie.Need-returns
-unfolding replied talliedBy
+unfolding replied tallied_by
 returns c =
     let counts = c.before.before in
     let assigns = counts.before in

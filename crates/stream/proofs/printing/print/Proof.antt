@@ -3,7 +3,7 @@ use mathlib.Core.Path.{◌≡◌, refl}
 use lib.ListN.{length}
 use borrow.Author.Rules.{rules}
 use Rattle.districts.specs.Lent.{lent}
-use Rattle.stream.specs.Desks.{deskOf}
+use Rattle.stream.specs.Desks.{desk_of}
 use Rattle.index.specs.Both.{index, Fitting}
 use Rattle.stream.specs.Printing.{Printed}
 use Rattle.stream.proofs.Steps.{remaining, falls}
@@ -13,7 +13,7 @@ use Rattle.stream.proofs.printing.print.Tie as tie
 
 abbrev invariant-loop : tie.invariant-loop
 invariant-loop bytes coordinates₀ ox₀ oy₀ sx₀ sy₀ runs₀ bx₀ by₀ mx₀ my₀ to₀ number p₀ coordinates ox oy sx sy runs bx by mx my to p =
-    Printed bytes (deskOf (lent ox₀ oy₀ sx₀ sy₀ runs₀) p₀.tally) number coordinates₀ to₀ p (lent ox oy sx sy runs) coordinates to
+    Printed bytes (desk_of (lent ox₀ oy₀ sx₀ sy₀ runs₀) p₀.tally) number coordinates₀ to₀ p (lent ox oy sx sy runs) coordinates to
     × (length to ≡ length to₀) × (length ox ≡ length ox₀) × (length oy ≡ length oy₀) × (length sx ≡ length sx₀) × (length sy ≡ length sy₀) × (length runs ≡ length runs₀)
     × Fitting p.axes sx sy runs (index bx by mx my)
 

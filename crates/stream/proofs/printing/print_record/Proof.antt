@@ -6,7 +6,7 @@ use lib.ListN.{length}
 use borrow.Author.Rules.{rules}
 use Rattle.records.specs.Layout.{more, broken}
 use Rattle.wording.specs.Lines.{room}
-use Rattle.stream.specs.Advancing.{toldOf}
+use Rattle.stream.specs.Advancing.{told_of}
 use Rattle.stream.specs.declared.Page.{Page}
 use Rattle.stream.specs.declared.Stop.TheVariants.{Full, More, Broken}
 use Rattle.index.proofs.Fitting.{axes-fit}
@@ -64,7 +64,7 @@ add-t50 c =
     let called = told.before.before.before.before.before.before.before.before.before.before in
     let a = (start called).args in
     let by = seen-from a.bytes.now a.p.at _ _ _ _ _ _ called.advance.ensures.0 in
-    record { fits = next-countable a.bytes.now a.p _ _ called.advance.result _ _ by _ _ (ap toldOf told.told.given.1) (start called).requires.0.countable }
+    record { fits = next-countable a.bytes.now a.p _ _ called.advance.result _ _ by _ _ (ap told_of told.told.given.1) (start called).requires.0.countable }
 
 enum_told : tie.Need-enum-told
 enum_told c = search rules
@@ -103,7 +103,7 @@ returns-2 c =
     let called = told.before.before.before.before.before.before.before.before.before.before in
     let a = (start called).args in
     let by = seen-from a.bytes.now a.p.at _ _ _ _ _ _ called.advance.ensures.0 in
-    (goes_on a.bytes.now a.p _ _ called.advance.result _ _ by _ _ _ _ _ (start called).requires.0.form (omega (arith, called.before.before.before.before.before.before.before.before.before.before.before.before.if1.false, (start called).requires.0.fits)) (ap toldOf told.told.given.1) refl refl refl refl line.line_at_lem.ensures, called.advance.ensures.1)
+    (goes_on a.bytes.now a.p _ _ called.advance.result _ _ by _ _ _ _ _ (start called).requires.0.form (omega (arith, called.before.before.before.before.before.before.before.before.before.before.before.before.if1.false, (start called).requires.0.fits)) (ap told_of told.told.given.1) refl refl refl refl line.line_at_lem.ensures, called.advance.ensures.1)
 
 same-length-7 : tie.Need-same-length-7
 same-length-7 c = let called = c.before.before.before.before.before.before.before.before.before.before.before in called.advance.auto.1.1.0
@@ -125,7 +125,7 @@ returns-3 c =
     let called = c.before.before.before.before.before.before.before.before.before.before.before in
     let a = (start called).args in
     let by = seen-from a.bytes.now a.p.at _ _ _ _ _ _ called.advance.ensures.0 in
-    let there = tells_more a.bytes.now a.p _ _ called.advance.result _ _ by (ap toldOf c.before.enum_told.given.1) in
+    let there = tells_more a.bytes.now a.p _ _ called.advance.result _ _ by (ap told_of c.before.enum_told.given.1) in
     (ends_with a.bytes.now a.p _ _ called.advance.result _ _ by more _ More c.ended2.result a.to.now there (λ l. l) refl c.ended2.ensures (roomy called, there), axes-fit _ _ _ _ _ _ (ap (λ (r : Page). r.axes) c.ended2.ensures) called.advance.ensures.1)
 
 same-length-12 : tie.Need-same-length-12
@@ -148,7 +148,7 @@ returns-4 c =
     let called = c.before.before.before.before.before.before.before.before.before.before.before in
     let a = (start called).args in
     let by = seen-from a.bytes.now a.p.at _ _ _ _ _ _ called.advance.ensures.0 in
-    let there = tells-broken a.bytes.now a.p _ _ called.advance.result _ _ by (ap toldOf c.before.enum-told2.given.1) in
+    let there = tells-broken a.bytes.now a.p _ _ called.advance.result _ _ by (ap told_of c.before.enum-told2.given.1) in
     (ends_with a.bytes.now a.p _ _ called.advance.result _ _ by broken _ Broken c.ended3.result a.to.now there (λ l. l) refl c.ended3.ensures (roomy called, there), axes-fit _ _ _ _ _ _ (ap (λ (r : Page). r.axes) c.ended3.ensures) called.advance.ensures.1)
 
 pub print-record-spec : {M : Type 1} → statement M

@@ -2,7 +2,7 @@
 use mathlib.Core.Path.{sym, ap}
 use Rattle.districts.specs.Answers.{belongs}
 use Rattle.wording.specs.Text.{ascii}
-use Rattle.wording.specs.Lines.{belongsText}
+use Rattle.wording.specs.Lines.{belongs_text}
 use Rattle.wording.proofs.Laying.{laid_as}
 use borrow.Author.Rules.{rules}
 use Rattle.wording.proofs.lines.class.Statement.{statement}
@@ -46,28 +46,28 @@ same_length c = search rules
 
 returns : tie.Need-returns
 unfolding ascii
-returns c = laid_as (ap (λ b. belongsText (belongs b)) (sym c.before.before.before.before.before.c.given.1)) c.before.before.border.ensures
+returns c = laid_as (ap (λ b. belongs_text (belongs b)) (sym c.before.before.before.before.before.c.given.1)) c.before.before.border.ensures
 
 same-length-2 : tie.Need-same-length-2
 same-length-2 c = search rules
 
 returns-2 : tie.Need-returns-2
 unfolding ascii
-returns-2 c = laid_as (ap (λ b. belongsText (belongs b)) (sym c.before.before.before.before.before.before.c2.given.1)) c.before.before.worded.ensures
+returns-2 c = laid_as (ap (λ b. belongs_text (belongs b)) (sym c.before.before.before.before.before.before.c2.given.1)) c.before.before.worded.ensures
 
 same-length-3 : tie.Need-same-length-3
 same-length-3 c = search rules
 
 returns-3 : tie.Need-returns-3
 unfolding ascii
-returns-3 c = laid_as (ap (λ b. belongsText (belongs b)) (sym c.before.before.before.before.before.enum_told.given.1)) c.before.before.put.ensures
+returns-3 c = laid_as (ap (λ b. belongs_text (belongs b)) (sym c.before.before.before.before.before.enum_told.given.1)) c.before.before.put.ensures
 
 same-length-4 : tie.Need-same-length-4
 same-length-4 c = search rules
 
 returns-4 : tie.Need-returns-4
 unfolding ascii
-returns-4 c = laid_as (ap (λ b. belongsText (belongs b)) (sym c.before.before.before.before.before.before.c3.given.1)) c.before.before.paired.ensures
+returns-4 c = laid_as (ap (λ b. belongs_text (belongs b)) (sym c.before.before.before.before.before.before.c3.given.1)) c.before.before.paired.ensures
 
 pub class-spec : {M : Type 1} → statement M
 class-spec =

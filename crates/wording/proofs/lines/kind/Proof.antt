@@ -1,7 +1,7 @@
 -- `wording::lines::kind` lays a word, and for a report its number. Assumes nothing.
 use mathlib.Core.Path.{sym, ap}
 use Rattle.wording.specs.Text.{ascii}
-use Rattle.wording.specs.Lines.{kindText, kind_of}
+use Rattle.wording.specs.Lines.{kind_text, kind_of}
 use Rattle.wording.proofs.Laying.{laid_as}
 use borrow.Author.Rules.{rules}
 use Rattle.wording.proofs.lines.kind.Statement.{statement}
@@ -60,35 +60,35 @@ same_length c = search rules
 
 returns : tie.Need-returns
 unfolding ascii
-returns c = laid_as (ap (λ k. kindText (kind_of k)) (sym c.before.before.before.before.before.enum_told.given.1)) c.before.before.put.ensures
+returns c = laid_as (ap (λ k. kind_text (kind_of k)) (sym c.before.before.before.before.before.enum_told.given.1)) c.before.before.put.ensures
 
 same-length-2 : tie.Need-same-length-2
 same-length-2 c = search rules
 
 returns-2 : tie.Need-returns-2
 unfolding ascii
-returns-2 c = laid_as (ap (λ k. kindText (kind_of k)) (sym c.before.before.before.before.before.enum-told2.given.1)) c.before.before.put2.ensures
+returns-2 c = laid_as (ap (λ k. kind_text (kind_of k)) (sym c.before.before.before.before.before.enum-told2.given.1)) c.before.before.put2.ensures
 
 same-length-3 : tie.Need-same-length-3
 same-length-3 c = search rules
 
 returns-3 : tie.Need-returns-3
 unfolding ascii
-returns-3 c = laid_as (ap (λ k. kindText (kind_of k)) (sym c.before.before.before.before.before.enum-told3.given.1)) c.before.before.put3.ensures
+returns-3 c = laid_as (ap (λ k. kind_text (kind_of k)) (sym c.before.before.before.before.before.enum-told3.given.1)) c.before.before.put3.ensures
 
 same-length-4 : tie.Need-same-length-4
 same-length-4 c = search rules
 
 returns-4 : tie.Need-returns-4
 unfolding ascii
-returns-4 c = laid_as (ap (λ k. kindText (kind_of k)) (sym c.before.before.before.before.before.before.k.given.1)) c.before.before.worded.ensures
+returns-4 c = laid_as (ap (λ k. kind_text (kind_of k)) (sym c.before.before.before.before.before.before.k.given.1)) c.before.before.worded.ensures
 
 same-length-5 : tie.Need-same-length-5
 same-length-5 c = search rules
 
 returns-5 : tie.Need-returns-5
 unfolding ascii
-returns-5 c = laid_as (ap (λ k. kindText (kind_of k)) (sym c.before.before.before.before.before.enum-told4.given.1)) c.before.before.put4.ensures
+returns-5 c = laid_as (ap (λ k. kind_text (kind_of k)) (sym c.before.before.before.before.before.enum-told4.given.1)) c.before.before.put4.ensures
 
 pub kind-spec : {M : Type 1} → statement M
 kind-spec =

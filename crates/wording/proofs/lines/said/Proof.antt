@@ -1,7 +1,7 @@
 -- `wording::lines::said` lays an answer. Assumes nothing.
 use mathlib.Core.Path.{sym, ap}
 use Rattle.wording.specs.Text.{ascii}
-use Rattle.wording.specs.Lines.{saidText, said_of}
+use Rattle.wording.specs.Lines.{said_text, said_of}
 use Rattle.wording.proofs.Laying.{laid_as}
 use borrow.Author.Rules.{rules}
 use Rattle.wording.proofs.lines.said.Statement.{statement}
@@ -45,28 +45,28 @@ same_length c = search rules
 
 returns : tie.Need-returns
 unfolding ascii
-returns c = laid_as (ap (λ a. saidText (said_of a)) (sym c.before.before.before.before.before.enum_told.given.1)) c.before.before.put.ensures
+returns c = laid_as (ap (λ a. said_text (said_of a)) (sym c.before.before.before.before.before.enum_told.given.1)) c.before.before.put.ensures
 
 same-length-2 : tie.Need-same-length-2
 same-length-2 c = search rules
 
 returns-2 : tie.Need-returns-2
 unfolding ascii
-returns-2 c = laid_as (ap (λ a. saidText (said_of a)) (sym c.before.before.before.before.before.before.s.given.1)) c.before.before.worded.ensures
+returns-2 c = laid_as (ap (λ a. said_text (said_of a)) (sym c.before.before.before.before.before.before.s.given.1)) c.before.before.worded.ensures
 
 same-length-3 : tie.Need-same-length-3
 same-length-3 c = search rules
 
 returns-3 : tie.Need-returns-3
 unfolding ascii
-returns-3 c = laid_as (ap (λ a. saidText (said_of a)) (sym c.before.before.before.before.before.s2.given.1)) c.before.before.class.ensures
+returns-3 c = laid_as (ap (λ a. said_text (said_of a)) (sym c.before.before.before.before.before.s2.given.1)) c.before.before.class.ensures
 
 same-length-4 : tie.Need-same-length-4
 same-length-4 c = search rules
 
 returns-4 : tie.Need-returns-4
 unfolding ascii
-returns-4 c = laid_as (ap (λ a. saidText (said_of a)) (sym c.before.before.before.before.before.before.s3.given.1)) c.before.before.worded2.ensures
+returns-4 c = laid_as (ap (λ a. said_text (said_of a)) (sym c.before.before.before.before.before.before.s3.given.1)) c.before.before.worded2.ensures
 
 pub said-spec : {M : Type 1} → statement M
 said-spec =

@@ -2,7 +2,7 @@
 use mathlib.Core.Path.{sym, ap}
 use Rattle.ring.specs.Locate.{touch_of}
 use Rattle.wording.specs.Text.{ascii}
-use Rattle.wording.specs.Lines.{touchText}
+use Rattle.wording.specs.Lines.{touch_text}
 use Rattle.wording.proofs.Laying.{laid_as}
 use borrow.Author.Rules.{rules}
 use Rattle.wording.proofs.lines.touched.Statement.{statement}
@@ -31,14 +31,14 @@ same_length c = search rules
 
 returns : tie.Need-returns
 unfolding ascii
-returns c = laid_as (ap (λ t. touchText (touch_of t)) (sym c.before.before.before.before.before.before.t.given.1)) c.before.before.paired.ensures
+returns c = laid_as (ap (λ t. touch_text (touch_of t)) (sym c.before.before.before.before.before.before.t.given.1)) c.before.before.paired.ensures
 
 same-length-2 : tie.Need-same-length-2
 same-length-2 c = search rules
 
 returns-2 : tie.Need-returns-2
 unfolding ascii
-returns-2 c = laid_as (ap (λ t. touchText (touch_of t)) (sym c.before.before.before.before.before.before.t2.given.1)) c.before.before.paired2.ensures
+returns-2 c = laid_as (ap (λ t. touch_text (touch_of t)) (sym c.before.before.before.before.before.before.t2.given.1)) c.before.before.paired2.ensures
 
 pub touched-spec : {M : Type 1} → statement M
 touched-spec =

@@ -7,7 +7,7 @@ use mir.Syntax.{w64}
 use mir.Val.{SFits}
 use mir.Facts.{to_z-of_z}
 use borrow.Author.Rules.{rules}
-use Rattle.exact.specs.Sign.{eqZ, cross}
+use Rattle.exact.specs.Sign.{eq_z, cross}
 use Rattle.exact.proofs.Bounds.{within-fits}
 use Rattle.ring.specs.Choices.{pick}
 use Rattle.ring.specs.Crossings.{steps}
@@ -48,7 +48,7 @@ returns c =
     let noted = c.noting.ensures in
     record {
       turns = noted.0 ∙ raised.with.ensures.0 ∙ ap (λ (z : ℤ). formed.before.args.self.turns +ℤ z) (step_is stepped);
-      clear = noted.1 ∙ (λ i. pick (eqZ (formed.determinant.ensures i) (pos 0)) 0 (raised.with.ensures.1 i));
+      clear = noted.1 ∙ (λ i. pick (eq_z (formed.determinant.ensures i) (pos 0)) 0 (raised.with.ensures.1 i));
     }
 
 pub along-spec : {M : Type 1} → statement M

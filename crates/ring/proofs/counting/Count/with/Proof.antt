@@ -6,12 +6,12 @@ use mir.Val.{SFits}
 use mir.Facts.{to_z-of_z}
 use borrow.Author.Rules.{rules}
 use Rattle.exact.proofs.Bounds.{within-add}
-use Rattle.ring.specs.Walk.{mostTurns}
+use Rattle.ring.specs.Walk.{most_turns}
 use Rattle.ring.proofs.counting.Count.with.Statement.{statement}
 use Rattle.ring.proofs.counting.Count.with.Tie as tie
 
 sum_fits : (c : tie.Start) → SFits w64 (c.args.self.turns +ℤ c.args.s.0)
-sum_fits c = within-add w64 c.args.self.turns c.args.s.0 mostTurns 1 c.requires.0 c.requires.1 tt
+sum_fits c = within-add w64 c.args.self.turns c.args.s.0 most_turns 1 c.requires.0 c.requires.1 tt
 
 add-t3 : tie.Need-overflow-add-t3
 add-t3 c =
