@@ -1,5 +1,8 @@
 // Where a point of the grid lies to an area: an outer ring and its lakes, which stand one behind the other in two columns, all x and all y. And which lengths
 // of rings a founding refuses.
+
+#![tactic(auto)]
+
 mod lengths;
 
 ghost use Rattle.std.specs.Prelude.{◌≡◌, [], ◌∷◌, ◌+◌, ◌≤◌, nat_abs, ◌+ℤ◌, length, take, drop};

@@ -1,4 +1,7 @@
 // Splitting and merging districts over five lent lists. No public call has a `requires`; a refused call changes nothing.
+
+#![tactic(auto)]
+
 mod merging;
 mod splitting;
 

@@ -1,6 +1,9 @@
 // Where a point of the grid lies against a ring whose coordinates stand in two columns, all x and all y. The walk is that of `ring` along a list
 // x, y, x, y, .., with loops of its own, since one loop for both, by a stride, is slower for both. What both do with a vertex is in `ring`. Here one column
 // can be read alone, so that a ring of some dozens of vertices is scanned before it is walked along.
+
+#![tactic(auto)]
+
 mod counting;
 mod passing;
 mod places;

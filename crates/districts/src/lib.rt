@@ -1,5 +1,8 @@
 // A register is held in five lent lists: the outline's x and y (ox, oy), the store's (sx, sy), and the runs. This crate reads them and answers whether they are well-formed. No function changes a list.
 // It also has the answers to reports.
+
+#![tactic(auto)]
+
 mod packing;
 mod runs;
 

@@ -1,5 +1,8 @@
 // Arithmetic of grid coordinates in 64 bits, exact: differences of 32-bit coordinates and their determinants.
 // The laws of the whole numbers that every later crate cites stand in proofs/.
+
+#![tactic(auto)]
+
 ghost use Rattle.std.specs.Prelude.{◌≡◌, ◌-ℤ◌};
 ghost use Rattle.exact.specs.Sign.{Short, cross};
 

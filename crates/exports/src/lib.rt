@@ -1,5 +1,8 @@
 // The calls for programs in other languages: numbers and lent lists only. No call has a `requires`. include/launchramp.h declares them; how
 // an answer is told is in crates/codes/specs/Codes.antt.
+
+#![tactic(auto)]
+
 ghost use Rattle.std.specs.Prelude.{◌≡◌};
 ghost use Rattle.ring.specs.Locate.{located};
 ghost use Rattle.districts.specs.Lent.{lent, formed, means};

@@ -1,4 +1,7 @@
 // A receiver's fix, two doubles of metres, as whole millimetres of the grid. No public call has a `requires`.
+
+#![tactic(auto)]
+
 mod rounding;
 
 ghost use Rattle.std.specs.Prelude.{◌≡◌};

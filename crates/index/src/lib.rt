@@ -2,6 +2,9 @@
 // the districts that touch it. The index of a register is one of these for x and one for y: a district has nothing to say about a point that one of them does not
 // list it for. The lists that hold it are lent: 128 bounds and 64 masks for each axis. One that is kept while the register changes is stale after a change, and made
 // anew where it is needed.
+
+#![tactic(auto)]
+
 mod bands;
 mod bounds;
 mod masks;

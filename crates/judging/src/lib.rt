@@ -1,4 +1,7 @@
 // Whether a change of the districts is refused, and why; no function changes a list. The calls for everybody are in `changes`.
+
+#![tactic(auto)]
+
 mod matching;
 mod splits;
 

@@ -1,6 +1,9 @@
 // The grouping program: reads a record stream from standard input and prints a line for each record and the end line. It is proved to end and to
 // be safe, and each turn to be one piece of the stream, so that what it prints is the stream's output (proofs/Whole.antt). How it ended is told by
 // one sentence on standard error, or by none where it read and wrote everything.
+
+#![tactic(auto)]
+
 mod ports;
 
 ghost use Rattle.std.specs.Prelude.{◌≡◌, true, false, not, ◌+◌, ◌≤◌, length, drop};

@@ -1,4 +1,7 @@
 // The record stream: what stands at the front of its bytes. `decode` has no `requires`; coordinates are written to a list of the caller's.
+
+#![tactic(auto)]
+
 mod decoding;
 mod fields;
 

@@ -1,4 +1,7 @@
 // Why a call is refused: one enum for all calls, and the rules' number of each. Which refusal comes first is told by the calls' tables.
+
+#![tactic(auto)]
+
 ghost use Rattle.std.specs.Prelude.{◌≡◌};
 ghost use Rattle.refusals.specs.Numbers.{number_of};
 

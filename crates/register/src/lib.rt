@@ -1,5 +1,8 @@
 // The register's founding and the assigning of reports, over five lent lists. No public call has a `requires`: lists of any length and content
 // are taken, and what is not well-formed is refused. A refused call changes nothing.
+
+#![tactic(auto)]
+
 mod founding;
 mod listing;
 mod placing;

@@ -1,6 +1,9 @@
 // Where a grid point lies against one closed ring: at vertices, on edges, or off the ring with its winding number, which is Hormann and
 // Agathos' by quarter turns; the code counts crossings, which is proved to come to the same. The call for everybody is `locate`; it has no
 // `requires`.
+
+#![tactic(auto)]
+
 mod counting;
 mod grid;
 mod places;

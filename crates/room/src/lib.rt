@@ -1,5 +1,8 @@
 // The room of the store: the run of a number leaves and the gap is closed; a ring of two parts is written behind all rings. Also the
 // parts of a ring, read and written. Assumes of its callers what each `requires` says; the calls above establish it.
+
+#![tactic(auto)]
+
 mod adding;
 mod pieces;
 mod removing;

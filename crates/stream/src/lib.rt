@@ -2,6 +2,9 @@
 // report's answer is counted; without a whole record it changes nothing. `print` takes one record after the other, as the grouping
 // program reads them, and writes their lines. The register is well-formed from the first record to the last, so no record tests it, and
 // reports are sorted by an index that is kept beside it.
+
+#![tactic(auto)]
+
 mod advancing;
 mod calling;
 mod counting;

@@ -1,5 +1,8 @@
 // The tally of assigned reports: a count for each of the 64 district numbers, raised for One, and one each for Border, None and
 // Several. `count` raises it where the caller keeps it, one report at a time. No public function has a `requires`.
+
+#![tactic(auto)]
+
 ghost use Rattle.std.specs.Prelude.{◌≡◌, false, cond};
 ghost use Rattle.districts.specs.Answers.{belongs, answer_of};
 ghost use Rattle.tally.specs.Tally.{most, fresh, count_of, uncounted, counting, ones_of, tallied, answered};

@@ -1,5 +1,8 @@
 // What both implementations are asked, made from a seed: rings and points, and calls on a register. Proved safe and ending; it knows
 // nothing of the library.
+
+#![tactic(auto)]
+
 pub mod chance;
 mod choosing;
 mod matching;

@@ -1,6 +1,9 @@
 // Both implementations side by side: one question to the library and to `test_second` and `test_rows`, their answers in one form, whether
 // both registers hold the same, and the lives of made registers. Only here the library is called. Proved safe and ending; what came of it
 // is in the score, and nothing is printed here.
+
+#![tactic(auto)]
+
 pub mod answer;
 mod asking;
 mod compare;

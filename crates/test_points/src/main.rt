@@ -3,6 +3,9 @@
 // a line each; and the lives of made registers, a line for each sort. Points on a ring are counted by whether they have one place there, as
 // `vertex`, or several, as `vertices`. What is made comes from a fixed seed, so that every run prints the same. Proved safe and ending; what
 // it prints is compared.
+
+#![tactic(auto)]
+
 mod edits;
 mod known;
 mod said;

@@ -1,6 +1,9 @@
 // A register that gives every district a row of its own, to be compared with the packed one: it follows the rules, locates by
 // `test_second`, and knows nothing of the library. Proved safe and ending; what it answers and leaves is compared and not proved.
 // All rows are one list. A row is the number of its vertices, 0 for an unused number, then x and y of each, with room for the largest ring.
+
+#![tactic(auto)]
+
 mod merging;
 mod reporting;
 mod row;

@@ -2,6 +2,9 @@
 // triangles from a common origin to each edge, as Jiménez, Feito and Segura do. And metres as whole millimetres. It knows nothing of the
 // other crates. Proved safe and ending for every list, point and value; its answers are compared and not proved. `locate` and `millimetres`
 // have no `requires`.
+
+#![tactic(auto)]
+
 mod metres;
 mod plane;
 

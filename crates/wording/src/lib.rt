@@ -1,5 +1,8 @@
 // The lines that the grouping program prints, written as bytes into a list that the caller lends. `line` and `end_line` have no `requires`:
 // a list that is too short for a line is left as it was.
+
+#![tactic(auto)]
+
 mod lines;
 mod text;
 
