@@ -19,7 +19,7 @@ use ring::{Located, Point, Touch, Winding};
 const MOST_RINGS: usize = 9;
 
 // Where a point lies to an area: on a ring, by its number and where on it, or off all rings with the winding number.
-#[derive(Drop)]
+#[derive(Clone, Copy)]
 pub enum Lying {
     On(usize, Touch),
     Off(Winding),

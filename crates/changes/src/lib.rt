@@ -12,7 +12,7 @@ pub use splitting::{split, split_known};
 // How many numbers the largest ring has: room for the copy of a ring, x, y, x, y, ..
 const RING_NUMBERS: usize = 4096;
 
-#[derive(Drop)]
+#[derive(Clone, Copy)]
 pub enum Changed {
     // The district that was made, or kept.
     Done(usize),

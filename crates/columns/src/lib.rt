@@ -19,7 +19,7 @@ pub use passing::missing;
 use ring::{Located, Point};
 
 // Which of a point's lines misses all vertices of a ring.
-#[derive(Drop)]
+#[derive(Clone, Copy)]
 pub enum Miss {
     // The row, or the column.
     By(bool),

@@ -20,7 +20,7 @@ const MOST_SCANNED: usize = 48;
 const CROSSING: u32 = 65536;
 
 // How a ring is crossed by a row: what the edges weigh that rise through it, and those that fall, and whether no vertex is on it.
-#[derive(Drop)]
+#[derive(Clone, Copy)]
 pub struct Crossed {
     pub rises: u32,
     pub falls: u32,

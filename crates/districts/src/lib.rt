@@ -25,7 +25,7 @@ pub const RUNS_LENGTH: usize = 129;
 pub const NUMBERS: usize = 64;
 
 // Where a report belongs, by the numbers of the districts.
-#[derive(Drop)]
+#[derive(Clone, Copy)]
 pub enum Class {
     // On the ring of this district, the lowest such, and where on it.
     Border(usize, Touch),
@@ -36,13 +36,13 @@ pub enum Class {
     Several(usize, usize),
 }
 
-#[derive(Drop)]
+#[derive(Clone, Copy)]
 pub struct Report {
     pub number: u32,
     pub class: Class,
 }
 
-#[derive(Drop)]
+#[derive(Clone, Copy)]
 pub enum Assigned {
     Sorted(Report),
     Refused(Refusal),

@@ -10,14 +10,14 @@ ghost use Rattle.exact.specs.Sign.{Short, cross};
 type Wide = i64;
 
 // The way from one point to another.
-#[derive(Drop)]
+#[derive(Clone, Copy)]
 pub struct Arrow {
     pub x: Wide,
     pub y: Wide,
 }
 
 // A determinant of two arrows.
-#[derive(Drop)]
+#[derive(Clone, Copy)]
 pub struct Det(pub Wide);
 
 // The way from (0, 0) to (x, y).

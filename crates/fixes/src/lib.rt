@@ -7,13 +7,13 @@ mod rounding;
 ghost use Rattle.std.specs.Prelude.{◌≡◌};
 ghost use Rattle.fixes.specs.Millimetres.{placed};
 
-#[derive(Drop)]
+#[derive(Clone, Copy)]
 pub struct Fix {
     pub easting: f64,
     pub northing: f64,
 }
 
-#[derive(Drop)]
+#[derive(Clone, Copy)]
 pub enum Placed {
     OnGrid(i32, i32),
     BeyondGrid,

@@ -9,7 +9,7 @@ use crate::bounds::{highest, lowest};
 pub const BANDS: usize = 64;
 
 // From the lowest bound to the highest; a band is 2 to the power of `shift` wide.
-#[derive(Drop)]
+#[derive(Clone, Copy)]
 pub struct Axis {
     pub low: i32,
     pub high: i32,

@@ -8,7 +8,7 @@ ghost use Rattle.index.specs.Axis.{Held, From, UpTo, Bounded, within as within_b
 pub const HIGHS: usize = 64;
 
 // A coordinate.
-#[derive(Drop)]
+#[derive(Clone, Copy)]
 pub struct Bound(pub i32);
 
 impl Bound {

@@ -19,7 +19,7 @@ pub use bounds::{Bound, within};
 pub use masks::listed;
 
 // The axes of an index that is kept while its register changes, and whether it fits.
-#[derive(Drop)]
+#[derive(Clone, Copy)]
 pub struct Axes {
     pub x: Axis,
     pub y: Axis,

@@ -29,7 +29,7 @@ const PIECE: usize = 65_536;
 
 // What was read so far, with the tally and the axes of the index. The bytes from `at` to `end` of the buffer are not taken yet; `failed` once a read or a write has failed, and that was
 // said.
-#[derive(Drop)]
+#[derive(Clone, Copy)]
 pub struct Reading {
     pub tally: Tally,
     pub axes: Axes,

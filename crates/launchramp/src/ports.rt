@@ -14,7 +14,7 @@ pub const TRIES: usize = 70_368_744_177_664;
 const WAIT: i64 = 10_000_000;
 
 // What a read brought: the buffer's bytes go to `end`; `going` while more may come, `failed` once the input can't be read.
-#[derive(Drop)]
+#[derive(Clone, Copy)]
 pub struct Filled {
     pub end: usize,
     pub going: bool,

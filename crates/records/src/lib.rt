@@ -9,13 +9,13 @@ pub use decoding::decode;
 use register::Position;
 
 // A report's number and position.
-#[derive(Drop)]
+#[derive(Clone, Copy)]
 pub struct Sighting {
     pub number: u32,
     pub position: Position,
 }
 
-#[derive(Drop)]
+#[derive(Clone, Copy)]
 pub enum Front {
     // An outline of so many vertices, in the first places of the lent list.
     Outline(usize),
@@ -31,7 +31,7 @@ pub enum Front {
 }
 
 // What was decoded, and how many bytes it has.
-#[derive(Drop)]
+#[derive(Clone, Copy)]
 pub struct Decoded {
     pub front: Front,
     pub taken: usize,

@@ -16,14 +16,14 @@ pub use placing::assign_at;
 use refusals::Refusal;
 pub use sorting::assign;
 
-#[derive(Drop)]
+#[derive(Clone, Copy)]
 pub enum Founded {
     Done,
     Refused(Refusal),
 }
 
 // A report's position.
-#[derive(Drop)]
+#[derive(Clone, Copy)]
 pub enum Position {
     // Whole millimetres.
     Grid(i32, i32),

@@ -13,7 +13,7 @@ use refusals::{Refusal, Verdict};
 use ring::Point;
 
 // Where a position is: a point, perhaps beyond the grid, or nowhere, and why.
-#[derive(Drop)]
+#[derive(Clone, Copy)]
 pub enum Spot {
     At(Point),
     Nowhere(Refusal),

@@ -11,7 +11,7 @@ use districts::{Class, NUMBERS};
 use ring::{Located, Touch, Winding};
 
 // How a point lies to one district.
-#[derive(Drop)]
+#[derive(Clone, Copy)]
 pub enum Stance {
     On(Touch),
     Inside,
@@ -21,7 +21,7 @@ pub enum Stance {
 }
 
 // The districts that a point winds about: the lowest, or NUMBERS where there is none, and how many.
-#[derive(Drop)]
+#[derive(Clone, Copy)]
 pub struct Seen {
     pub lowest: usize,
     pub many: usize,

@@ -14,7 +14,7 @@ use crate::{Point, grid};
 pub const BLOCK: usize = 16;
 
 // A vertex as seen from r: the way to it, and 1 where it lies below r's row, otherwise 0.
-#[derive(Drop)]
+#[derive(Clone, Copy)]
 pub struct End {
     pub way: exact::Arrow,
     pub low: i64,
@@ -22,14 +22,14 @@ pub struct End {
 
 // What was counted along some edges: crossings, and 1 as long as no determinant was 0. This is a number of 64 bits, not a bool, since
 // the compiler then makes the choice in one instruction.
-#[derive(Drop)]
+#[derive(Clone, Copy)]
 pub struct Count {
     pub turns: i64,
     pub clear: usize,
 }
 
 // What an edge adds to the crossings.
-#[derive(Drop)]
+#[derive(Clone, Copy)]
 struct Step(i64);
 
 pub fn marked(way: exact::Arrow) -> End

@@ -29,29 +29,29 @@ const LEAST_SHORT: usize = 2 * FEWEST_VERTICES;
 const MOST_SHORT: usize = 2 * counting::BLOCK + 1;
 
 // A point of the grid, in whole millimetres.
-#[derive(Drop)]
+#[derive(Clone, Copy)]
 pub struct Point {
     pub x: i32,
     pub y: i32,
 }
 
-#[derive(Drop)]
+#[derive(Clone, Copy)]
 pub struct Winding(pub i32);
 
-#[derive(Drop)]
+#[derive(Clone, Copy)]
 pub enum Parity {
     Even,
     Odd,
 }
 
 // Where a point is on a ring: at vertices, or else on edges; the lowest index and the highest.
-#[derive(Drop)]
+#[derive(Clone, Copy)]
 pub enum Touch {
     Vertex(usize, usize),
     Edge(usize, usize),
 }
 
-#[derive(Drop)]
+#[derive(Clone, Copy)]
 pub enum Located {
     On(Touch),
     Off(Winding, Parity),

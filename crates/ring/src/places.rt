@@ -10,14 +10,14 @@ ghost use Rattle.ring.specs.Walk.{head_of, Ready, span, met_at, in_line};
 use crate::{Point, grid};
 
 // The lowest and the highest of some indices; where there are none, the number of vertices and 0.
-#[derive(Drop)]
+#[derive(Clone, Copy)]
 pub struct Span {
     pub lowest: usize,
     pub highest: usize,
 }
 
 // The vertices that are r, or else the edges that hold it.
-#[derive(Drop)]
+#[derive(Clone, Copy)]
 pub struct Met {
     pub vertex: bool,
     pub at: Span,

@@ -16,7 +16,7 @@ pub use printing::print;
 use tally::Tally;
 use wording::{Kind, Said};
 
-#[derive(Drop)]
+#[derive(Clone, Copy)]
 pub enum Told {
     Answered(Kind, Said),
     // The beginning of a record.
@@ -26,7 +26,7 @@ pub enum Told {
 }
 
 // What was told, how many bytes the record has, and the tally and the index's axes after it.
-#[derive(Drop)]
+#[derive(Clone, Copy)]
 pub struct Advanced {
     pub told: Told,
     pub taken: usize,
@@ -35,7 +35,7 @@ pub struct Advanced {
 }
 
 // Why printing stopped.
-#[derive(Drop)]
+#[derive(Clone, Copy)]
 pub enum Stop {
     // The lent list has no room for another line.
     Full,
@@ -46,7 +46,7 @@ pub enum Stop {
 
 // How many bytes were taken and how many places filled, the number of the next record, the tally and the index's axes; `going` while the last turn found
 // a record, and otherwise why it stopped.
-#[derive(Drop)]
+#[derive(Clone, Copy)]
 pub struct Page {
     pub at: usize,
     pub filled: usize,

@@ -13,7 +13,7 @@ use refusals::Refusal;
 // The largest number that a count can be.
 pub const MOST: u32 = 4_294_967_295;
 
-#[derive(Drop)]
+#[derive(Clone, Copy)]
 pub struct Tally {
     pub ones: [u32; 64],
     pub border: u32,
@@ -22,7 +22,7 @@ pub struct Tally {
 }
 
 // The tally after one answer, and the answer that is then given.
-#[derive(Drop)]
+#[derive(Clone, Copy)]
 pub struct Outcome {
     pub tally: Tally,
     pub answer: Assigned,

@@ -17,7 +17,7 @@ const SHORT: usize = 5;
 const MILLIMETRES: f64 = 1000.0;
 
 // A call on a register. The list of points that stands beside it is the ring that is founded with, or the path of a split.
-#[derive(Drop)]
+#[derive(Clone, Copy)]
 pub enum Edit {
     Found,
     Split {
@@ -39,7 +39,7 @@ pub enum Edit {
 }
 
 // A call, and how many numbers of a list are its points.
-#[derive(Drop)]
+#[derive(Clone, Copy)]
 pub struct Asked {
     pub edit: Edit,
     pub m: usize,

@@ -10,7 +10,7 @@ use test_rows::{least, same, wrapped};
 // One of so many merges is with any district.
 const WILD: usize = 4;
 
-#[derive(Drop)]
+#[derive(Clone, Copy)]
 struct Found {
     number: usize,
     index: usize,

@@ -17,7 +17,7 @@ const LONG: usize = 100;
 // What a coordinate of 0 is drawn as.
 const MIDDLE: usize = 1_000_000_001;
 
-#[derive(Drop)]
+#[derive(Clone, Copy)]
 pub enum Kind {
     // Few places for many vertices: borders and self-crossings are common.
     SmallGrid,
@@ -34,7 +34,7 @@ pub enum Kind {
 }
 
 // The first m numbers of the list are a ring, or are to be refused as one; and a point.
-#[derive(Drop)]
+#[derive(Clone, Copy)]
 pub struct Case {
     pub m: usize,
     pub x: i32,
@@ -42,7 +42,7 @@ pub struct Case {
 }
 
 // A ring of `whole` vertices, the first `once` of them listed over and over; or with spikes.
-#[derive(Drop)]
+#[derive(Clone, Copy)]
 struct Shape {
     whole: usize,
     once: usize,
@@ -50,7 +50,7 @@ struct Shape {
 }
 
 // An edge from p to q.
-#[derive(Drop)]
+#[derive(Clone, Copy)]
 struct Edge {
     px: usize,
     py: usize,

@@ -60,7 +60,7 @@ pub const CLOCKWISE_EVEN: usize = 2;
 pub const CLOCKWISE_ODD: usize = 3;
 
 // An answer. A number that it does not have is 0.
-#[derive(Drop)]
+#[derive(Clone, Copy)]
 pub struct Answer {
     pub what: usize,
     // The winding number's size, the district's number, the refusal's, or the size in millimetres.
@@ -75,7 +75,7 @@ pub struct Answer {
 }
 
 // The answers of both to one question, and whether both registers hold the same afterwards.
-#[derive(Drop)]
+#[derive(Clone, Copy)]
 pub struct Both {
     pub library: Answer,
     pub second: Answer,

@@ -17,7 +17,7 @@ const FEWER: usize = 2;
 const REPORT_NUMBERS: usize = 4_294_967_296;
 
 // What registers are made of, and paths, short or long; how many steps each lives.
-#[derive(Drop)]
+#[derive(Clone, Copy)]
 pub struct Life {
     pub what: Kind,
     pub long: bool,

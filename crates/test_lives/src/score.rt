@@ -5,7 +5,7 @@ use test_cases::chance::mixed;
 // Every kind of answer, and every refusal by its number.
 pub const KINDS: usize = 38;
 
-#[derive(Drop)]
+#[derive(Clone, Copy)]
 pub struct Score {
     pub asked: usize,
     // How often the answers, or what the registers hold, differ.

@@ -5,7 +5,7 @@ use test_lives::Score;
 const FAR: i32 = 1_000_000_000;
 
 // A picture by its name and corners, of which the first m numbers count.
-#[derive(Drop)]
+#[derive(Clone, Copy)]
 struct Picture {
     name: [u8; 24],
     corners: [i32; 16],
@@ -86,7 +86,7 @@ const PICTURES: [Picture; PICTURED] = [
 ];
 
 // A picture's number and a point.
-#[derive(Drop)]
+#[derive(Clone, Copy)]
 struct Known {
     picture: usize,
     x: i32,

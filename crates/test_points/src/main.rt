@@ -20,7 +20,7 @@ use test_lives::{Life, Score};
 const SEED: usize = 20_011_120;
 
 // Rings of one kind, and how many.
-#[derive(Drop)]
+#[derive(Clone, Copy)]
 struct Rings {
     name: [u8; 30],
     what: Kind,
@@ -63,7 +63,7 @@ const RINGS: [Rings; KINDS] = [
 ];
 
 // Registers that live so, and how many.
-#[derive(Drop)]
+#[derive(Clone, Copy)]
 struct Lives {
     name: [u8; 30],
     life: Life,

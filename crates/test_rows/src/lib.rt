@@ -63,14 +63,14 @@ const NOT_FINITE: usize = 18;
 const MISSING: usize = 19;
 
 // What a change answers: the district that was made or kept, or a refusal's number.
-#[derive(Drop)]
+#[derive(Clone, Copy)]
 pub enum Told {
     Done(usize),
     Refused(usize),
 }
 
 // Where a point is on a ring: at corners, or else on sides; the lowest index and the highest.
-#[derive(Drop)]
+#[derive(Clone, Copy)]
 pub struct Met {
     pub corner: bool,
     pub lowest: usize,
@@ -78,7 +78,7 @@ pub struct Met {
 }
 
 // Where a report belongs.
-#[derive(Drop)]
+#[derive(Clone, Copy)]
 pub enum Belongs {
     // The lowest district with the point on its ring, and where on that ring.
     Border(usize, Met),
@@ -90,7 +90,7 @@ pub enum Belongs {
 }
 
 // A report's position as it was sent: a point in whole millimetres, two values in metres, or nothing.
-#[derive(Drop)]
+#[derive(Clone, Copy)]
 pub enum Sent {
     Point(i32, i32),
     Metres(f64, f64),

@@ -5,7 +5,7 @@ ghost use Rattle.test_rows.specs.Shape.{all_rows};
 use crate::{Belongs, Met, NUMBERS, Sent, row};
 use test_second::{Length, Where};
 
-#[derive(Drop)]
+#[derive(Clone, Copy)]
 struct Seen {
     // The lowest district with the point on its ring, or NUMBERS, and where on that ring.
     border: usize,

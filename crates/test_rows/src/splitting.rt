@@ -5,7 +5,7 @@ ghost use Rattle.test_rows.specs.Shape.{all_rows, most_vertices};
 use crate::{FEWEST_VERTICES, MOST_VERTICES, NUMBERS, SPARE, Told, row};
 
 // How many vertices all districts have, and the lowest unused number, or NUMBERS.
-#[derive(Drop)]
+#[derive(Clone, Copy)]
 pub struct InUse {
     pub vertices: usize,
     pub unused: usize,

@@ -32,7 +32,7 @@ const ORIGIN: Spot = Spot {
 
 const OTHER_ORIGIN: Spot = Spot { x: 0, y: 0 };
 
-#[derive(Drop)]
+#[derive(Clone, Copy)]
 pub enum Where {
     // The lowest and the highest index of the corners that are the point, or of the sides that hold it.
     Corner(usize, usize),
@@ -44,7 +44,7 @@ pub enum Where {
 }
 
 // How often the ring goes round a point, in half turns, by direction.
-#[derive(Drop)]
+#[derive(Clone, Copy)]
 struct HalfTurns {
     forward: u32,
     backward: u32,

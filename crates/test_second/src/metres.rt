@@ -15,7 +15,7 @@ const MANY: u64 = 125;
 
 const LIMIT: u64 = 1_000_000_000;
 
-#[derive(Drop)]
+#[derive(Clone, Copy)]
 pub struct Length {
     // Not a NaN and not an infinity.
     pub number: bool,
@@ -37,7 +37,7 @@ const FAR: Length = Length {
 };
 
 // A number that was halved: what is left, the bit that fell last, and whether one fell before it.
-#[derive(Drop)]
+#[derive(Clone, Copy)]
 struct Halved {
     left: u64,
     half: bool,

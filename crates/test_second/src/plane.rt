@@ -9,13 +9,13 @@ const LIMIT: u64 = 1_000_000_000;
 // Stands for every coordinate that is not of the grid, whose own go from 0 to 2,000,000,000.
 const BEYOND: u64 = 2_000_000_001;
 
-#[derive(Drop)]
+#[derive(Clone, Copy)]
 pub struct Spot {
     pub x: u64,
     pub y: u64,
 }
 
-#[derive(Drop)]
+#[derive(Clone, Copy)]
 pub struct Edge {
     pub from: Spot,
     pub to: Spot,

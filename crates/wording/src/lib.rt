@@ -10,7 +10,7 @@ use districts::Class;
 pub use lines::{ROOM, end_line, line, line_at};
 
 // A record's kind, a report with its number. `Broken` is the record that ends the reading.
-#[derive(Drop)]
+#[derive(Clone, Copy)]
 pub enum Kind {
     Outline,
     Split,
@@ -19,7 +19,7 @@ pub enum Kind {
     Broken,
 }
 
-#[derive(Drop)]
+#[derive(Clone, Copy)]
 pub enum Said {
     Ok,
     // The district that was made, or kept.

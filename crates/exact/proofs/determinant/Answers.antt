@@ -17,7 +17,7 @@ difference : (x y u v : ℤ) → nat_abs x ≤ 2_000_000_000 → nat_abs y ≤ 2
 difference x y u v g h k l =
     within-fits w64 (x *ℤ y -ℤ u *ℤ v) 8_000_000_000_000_000_000
     (sub_within (x *ℤ y) (u *ℤ v) 4_000_000_000_000_000_000 4_000_000_000_000_000_000 8_000_000_000_000_000_000
-        (mul-within x y 2_000_000_000 2_000_000_000 4_000_000_000_000_000_000 g h tt) (mul-within u v 2_000_000_000 2_000_000_000 4_000_000_000_000_000_000 k l tt) tt)
+    (mul-within x y 2_000_000_000 2_000_000_000 4_000_000_000_000_000_000 g h tt) (mul-within u v 2_000_000_000 2_000_000_000 4_000_000_000_000_000_000 k l tt) tt)
     tt
 
 pub overflow_sub-result : goal.overflow_sub-result

@@ -1,0 +1,13 @@
+-- `codes::batches::count_all`: after i answers they are counted, told anew at the front, and behind them stands what was there. Assumes nothing.
+use Prim.Native.Nat.{◌*◌, ◌+◌, ◌-◌, ◌^◌, ◌≤◌, ◌<◌}
+use native.Mathlib.Omega.{arith}
+use lib.ListN.{length}
+use borrow.Author.Rules.{rules}
+use Rattle.codes.proofs.Batched.{one-room, one-tail, Counted, counted_none, counted_next, counted-all}
+use Rattle.codes.proofs.batches.count_all.Given as goal
+
+abbrev pub invariant-loop-i : goal.invariant-loop-i
+invariant-loop-i l = Counted l.n l.i l.initial.answers l.answers l.initial.counts l.counts
+
+abbrev pub decreases-loop-i : goal.decreases-loop-i
+decreases-loop-i l = l.n - l.i

@@ -1,0 +1,44 @@
+-- `codes::batches::tell` writes the kind and the eight values. Assumes nothing.
+use native.Mathlib.Omega.{arith}
+use mathlib.Core.Path.{◌≡◌, refl, ap, ◌∙◌}
+use mathlib.Core.List.{◌∷◌, ◌++◌}
+use lib.ListN.{length, get_or, drop, length-set}
+use Rattle.districts.specs.Answers.{answer_of}
+use Rattle.codes.proofs.Batched.{nine, eight, told-long}
+use borrow.Author.Rules.{rules}
+use Rattle.codes.proofs.batches.tell.Goals as goal
+
+pub bounds-answers-1 : goal.bounds-answers-1
+bounds-answers-1 c = simp (length-set) (omega (arith, c.requires))
+
+pub bounds-answers-2 : goal.bounds-answers-2
+bounds-answers-2 c = simp (length-set) (omega (arith, c.requires))
+
+pub bounds-answers-3 : goal.bounds-answers-3
+bounds-answers-3 c = simp (length-set) (omega (arith, c.requires))
+
+pub bounds-answers-4 : goal.bounds-answers-4
+bounds-answers-4 c = simp (length-set) (omega (arith, c.requires))
+
+pub bounds-answers-5 : goal.bounds-answers-5
+bounds-answers-5 c = simp (length-set) (omega (arith, c.requires))
+
+pub bounds-answers-6 : goal.bounds-answers-6
+bounds-answers-6 c = simp (length-set) (omega (arith, c.requires))
+
+pub bounds-answers-7 : goal.bounds-answers-7
+bounds-answers-7 c = simp (length-set) (omega (arith, c.requires))
+
+pub bounds-answers-8 : goal.bounds-answers-8
+bounds-answers-8 c = simp (length-set) (omega (arith, c.requires))
+
+pub returns : goal.returns
+returns c =
+    let a = c.args in
+    let l = a.answers.now in
+    let vs = c.assigned-kind.new.1.0 in
+    let is = c.assigned-kind.ensures in
+    let long : length vs ≡ 8 = omega (arith, ap length is.values, told-long (answer_of a.a)) in
+    nine l c.assigned-kind.result (get_or vs 0 0) (get_or vs 1 0) (get_or vs 2 0) (get_or vs 3 0) (get_or vs 4 0) (get_or vs 5 0) (get_or vs 6 0) (get_or vs 7 0) c.requires
+    ∙ ap (λ t. c.assigned-kind.result ∷ t) (eight vs (drop 9 l) long)
+    ∙ (λ i. is.kind i ∷ (is.values i ++ drop 9 l))

@@ -1,0 +1,14 @@
+-- `districts::runs::total` adds up the 64 sizes. The invariant: the sum so far is that of the numbers below d, each below 2 ^ 32. Assumes nothing.
+use Prim.Native.Nat.{◌*◌, ◌≤◌, ◌-◌}
+use mathlib.Core.Path.{◌≡◌}
+use Rattle.districts.specs.Counts.{sum_to}
+use Rattle.districts.specs.Lists.{size}
+use Rattle.districts.proofs.Counting.{sum-none, sum_more, sum-end}
+use borrow.Author.Rules.{rules}
+use Rattle.districts.proofs.runs.total.Given as goal
+
+abbrev pub invariant-loop-d : goal.invariant-loop-d
+invariant-loop-d l = (l.d ≤ 64) × (l.sum ≡ sum_to l.d (size l.runs)) × (l.sum ≤ l.d * 4294967295)
+
+abbrev pub decreases-loop-d : goal.decreases-loop-d
+decreases-loop-d l = 64 - l.d

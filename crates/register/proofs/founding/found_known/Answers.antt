@@ -1,0 +1,110 @@
+-- `register::founding::found_known` writes where nothing is refused, and otherwise leaves the lists. Assumes nothing.
+use Prim.Native.Nat.{ℕ, ◌+◌, ◌/◌, ◌%◌, ◌≤◌}
+use native.Mathlib.Omega.{arith}
+use mathlib.Core.Path.{◌≡◌, refl, sym, ap, transport, ◌∙◌}
+use mathlib.Core.Bool.{true, false}
+use mathlib.Core.List.{List}
+use lib.Dec.{eqb, ltb}
+use lib.IntN.{ℤ}
+use lib.ListN.{length}
+use borrow.Author.Rules.{rules}
+use borrow.Author.Tests.{eqb-true, eqb-false, ltb-false, not-false}
+use Rattle.ring.specs.Grid.{vertices, some_beyond}
+use Rattle.ring.proofs.Pick.{neither_left, neither_right}
+use Rattle.ring.proofs.Vertices.{length-vertices}
+use Rattle.districts.specs.Lists.{outline_size, meaning}
+use Rattle.districts.specs.Lent.{Lists, lent, outline_of, store_of, formed, means}
+use Rattle.districts.proofs.Sound.{outline-lengths, store-lengths, runs-length}
+use Rattle.districts.proofs.Lent.{outline-in-use}
+use Rattle.refusals.specs.declared.Refusal.{Refusal}
+use Rattle.refusals.specs.Numbers.{number_of}
+use Rattle.refusals.specs.Verdicts.{accept, refuse, verdict, verdict_of}
+use Rattle.refusals.proofs.Verdicts.{accepted}
+use Rattle.room.proofs.Forms as Forms
+use Rattle.room.proofs.Forms.{Sound, Long, sound}
+use Rattle.room.proofs.Written.{numbers-vertices}
+use Rattle.register.specs.declared.Founded.TheVariants.{Done, Refused}
+use Rattle.register.specs.Founding.{found_tests, founded}
+use Rattle.register.specs.Calls.{Wrote, FoundBy}
+use Rattle.register.proofs.Founds.{founded-sound, founded-meaning}
+use Rattle.register.proofs.founding.found_known.Goals as goal
+
+-- what an acceptance tells
+
+record Free (l : Lists) (xs : List ℤ) (n : ℕ) : Type 0 where
+  good : formed l ≡ true
+  none : outline_size l.runs ≡ 0
+  even : length xs ≡ n + n
+  least : 3 ≤ n
+  most : n ≤ 2048
+  grid : some_beyond xs ≡ false
+
+free : (l : Lists) (xs : List ℤ) → verdict (found_tests (formed l) (means l) xs) ≡ accept → Free l xs (length xs / 2)
+free l xs e =
+    let first = accepted 1 _ _ e in
+    let second = accepted 3 _ _ first.1 in
+    let third = accepted 4 _ _ second.1 in
+    let fourth = accepted 5 _ _ third.1 in
+    let m = length xs in
+    let odd = eqb-false (m % 2) 1 (neither_left (eqb (m % 2) 1) _ third.0) in
+    let sizes = neither_right (eqb (m % 2) 1) _ third.0 in
+    let few = ltb-false (m / 2) 3 (neither_left (ltb (m / 2) 3) _ sizes) in
+    let many = ltb-false 2048 (m / 2) (neither_right (ltb (m / 2) 3) _ sizes) in
+    record {
+      good = not-false _ first.0;
+      none = eqb-true (outline_size l.runs) 0 (not-false _ (sym (outline-in-use (outline_of l) (store_of l) l.runs) ∙ second.0));
+      even = omega arith;
+      least = few;
+      most = many;
+      grid = fourth.0;
+    }
+
+-- the two outcomes
+
+wrote-all : (xs : List ℤ) (n : ℕ) (l after : Lists) → Free l xs n → Long after → verdict (found_tests (formed l) (means l) xs) ≡ accept → Wrote (vertices xs) l after → FoundBy Done xs l after
+unfolding founded
+wrote-all xs n l after f long e w =
+    let many : length (vertices xs) ≡ n = length-vertices xs n f.even in
+    let least = f.least in
+    let most = f.most in
+    let sure = sound l f.good in
+    let grid = ap some_beyond (numbers-vertices xs n f.even) ∙ f.grid in
+    let few : 3 ≤ length (vertices xs) = omega (arith, many, least) in
+    let fits : length (vertices xs) ≤ 2048 = omega (arith, many, most) in
+    record {
+      said = sym e;
+      left = (
+        Forms.formed after long (transport (λ i. Sound (sym w.outline i) (sym w.store i) (sym w.runs i)) (founded-sound (outline_of l) (store_of l) l.runs (vertices xs) sure f.none few fits grid)),
+        (λ i. meaning (w.outline i) (w.store i) (w.runs i)) ∙ founded-meaning (outline_of l) (store_of l) l.runs (vertices xs) sure f.none few fits grid,
+      );
+    }
+
+left-all : (q : Refusal) (xs : List ℤ) (l : Lists) → verdict (found_tests (formed l) (means l) xs) ≡ refuse (number_of q) → FoundBy (Refused q) xs l l
+left-all q xs l e = record { said = sym e; left = refl }
+
+pub write-requires : goal.write-requires
+write-requires c =
+    let told_free : let s = start c.before.before.before.before.before in verdict (found_tests (formed (lists s)) (means (lists s)) s.args.ring.now) ≡ accept = sym c.judged.ensures ∙ ap verdict_of c.in-Accepted.is in
+    let judged-free : let s = start c.before.before.before.before.before in Free (lists s) s.args.ring.now (length s.args.ring.now / 2) = free (lists (start c.before.before.before.before.before)) (start c.before.before.before.before.before).args.ring.now told_free in
+    let f = judged-free in
+    let l = lists (start c.before.before.before.before.before) in
+    let own = outline-lengths l f.good in
+    let all = store-lengths l f.good in
+    record { ox_len = (own.0, own.1, all.0, all.1, runs-length l f.good); ring_len = (f.even, f.most) }
+
+pub returns-in-Accepted : goal.returns-in-Accepted
+returns-in-Accepted c =
+    let told_free : let s = start c.before.before.before.before.before.before.before.before.before.before.before.before in verdict (found_tests (formed (lists s)) (means (lists s)) s.args.ring.now) ≡ accept = sym c.judged.ensures ∙ ap verdict_of c.in-Accepted.is in
+    let judged-free : let s = start c.before.before.before.before.before.before.before.before.before.before.before.before in Free (lists s) s.args.ring.now (length s.args.ring.now / 2) = free (lists (start c.before.before.before.before.before.before.before.before.before.before.before.before)) (start c.before.before.before.before.before.before.before.before.before.before.before.before).args.ring.now told_free in
+    let s = start c.before.before.before.before.before.before.before.before.before.before.before.before in
+    let l = lists s in
+    let f = judged-free in
+    let own = outline-lengths l f.good in
+    let all = store-lengths l f.good in
+    let same = c.write.auto in
+    wrote-all s.args.ring.now _ l _ f (record { outline = (same.0 ∙ own.0, same.1.0 ∙ own.1); store = (same.1.1.0 ∙ all.0, same.1.1.1.0 ∙ all.1) }) told_free c.write.ensures
+
+pub returns-in-Refused : goal.returns-in-Refused
+returns-in-Refused c =
+    let s = c.before.before.before.before.before in
+    left-all _ s.args.ring.now (lists s) (sym c.judged.ensures ∙ ap verdict_of c.in-Refused.is)

@@ -1,0 +1,31 @@
+-- `register::placing::spot_of` answers by the kind of position. Assumes nothing.
+use mathlib.Core.Path.{◌≡◌, sym, subst}
+use mir.Syntax.{w32}
+use mir.Val.{SFits}
+use mir.Facts.{to_z-of_z}
+use borrow.Author.Rules.{rules}
+use Rattle.ring.specs.Grid.{point}
+use Rattle.register.specs.declared.placing.Spot.TheVariants.{At, Nowhere}
+use Rattle.refusals.specs.declared.Refusal.TheVariants as Why
+use Rattle.register.specs.declared.placing.Spot.{Spot}
+use Rattle.register.specs.declared.Position.{Position}
+use Rattle.register.specs.Spots.{Spots}
+use Rattle.register.proofs.ByPosition.{grid-spot, missing-spot}
+use Rattle.register.proofs.placing.spot_of.Goals as goal
+
+of-position : (s : goal.Start) (r : Spot) (p : Position) → s.args.position ≡ p → Spots r p → Spots r s.args.position
+of-position s r p e = subst (Spots r) (sym e)
+
+pub returns-in-Grid : goal.returns-in-Grid
+returns-in-Grid c =
+    let x = c.in-Grid.x in
+    let y = c.in-Grid.y in
+    let across : SFits w32 x = search rules in
+    let up : SFits w32 y = search rules in
+    subst (λ q. Spots (At q) c.args.position) (λ i. point (sym (to_z-of_z across) i) (sym (to_z-of_z up) i)) (of-position c.before.before.before (At (point x y)) _ c.in-Grid.is (grid-spot x y))
+
+pub returns-in-Fix : goal.returns-in-Fix
+returns-in-Fix c = of-position c.before.before.before.before c.spot_of_fix.result _ c.in-Fix.is c.spot_of_fix.ensures
+
+pub returns-in-Missing : goal.returns-in-Missing
+returns-in-Missing c = of-position c.before.before (Nowhere Why.Missing) _ c.in-Missing.is missing-spot

@@ -1,0 +1,12 @@
+-- `ring::counting::seen` is the way to a vertex, with its mark. Assumes nothing.
+use mathlib.Core.Path.{sym, subst}
+use borrow.Author.Rules.{rules}
+use Rattle.ring.specs.Grid.{vertices}
+use Rattle.ring.specs.Rings.{at}
+use Rattle.ring.specs.Walk.{head_of, Way}
+use Rattle.ring.proofs.counting.seen.Goals as goal
+
+pub returns : goal.returns
+returns c =
+    let told = c.marked.ensures in
+    record { way = subst (Way (head_of c.args.r) (at (vertices c.args.ring.now) c.args.i)) (sym told.0) c.way.ensures; marked = told.1 }

@@ -1,0 +1,27 @@
+-- `ring::grid::some_beyond` looks at every number. The invariant: a number of the list is beyond the grid exactly if one was found
+-- or one is left to find. Assumes nothing.
+use Prim.Native.Nat.{ℕ, suc, ◌+◌, ◌≤◌, ◌<◌, ◌-◌}
+use native.Mathlib.Numerals.{add-one}
+use native.Mathlib.Omega.{arith}
+use mathlib.Core.Path.{◌≡◌, refl, sym, ap, ◌∙◌}
+use mathlib.Core.Bool.{Bool, true, false, ◌||◌}
+use mathlib.Core.List.{List}
+use lib.IntN.{ℤ, pos}
+use lib.ListN.{length, get_or, drop, drop_of_length-le}
+use lib.Seq.{drop-cons}
+use mir.Syntax.{w32}
+use mir.Val.{SFits}
+use mir.Facts.{to_z-of_z}
+use borrow.Author.Rules.{rules}
+use Rattle.ring.specs.Grid.{beyond, some_beyond}
+use Rattle.ring.proofs.grid.some_beyond.Given as goal
+
+pub record Looked (list : List ℤ) (found : Bool) (i : ℕ) : Type 0 where
+  pub le : i ≤ length list
+  pub so_far : some_beyond list ≡ (found || some_beyond (drop i list))
+
+abbrev pub invariant-loop-i : goal.invariant-loop-i
+invariant-loop-i l = Looked l.list l.found l.i
+
+abbrev pub decreases-loop-i : goal.decreases-loop-i
+decreases-loop-i l = length l.list - l.i

@@ -1,0 +1,20 @@
+-- `room::pieces::copy_ring` writes the parts of the two columns that are a district's ring. Assumes nothing.
+use native.Mathlib.Omega.{arith}
+use mathlib.Core.Path.{ap, ◌∙◌}
+use Rattle.ring.specs.Columns.{points}
+use Rattle.districts.specs.Lists.{part}
+use Rattle.districts.specs.Lent.{written}
+use Rattle.districts.proofs.Lent.{cut-points}
+use Rattle.room.specs.Writing.{numbers_of}
+use borrow.Author.Rules.{rules}
+use Rattle.room.proofs.pieces.copy_ring.Goals as goal
+
+pub returns : goal.returns
+returns c =
+    let a = c.args in
+    let f = c.first_place-from.ensures.0 in
+    let n = c.size-n.ensures.0 in (
+      omega (arith, n),
+      c.interleave.ensures
+          ∙ ap (λ P. written (numbers_of P) a.to.now) (cut-points a.sx.now a.sy.now c.first_place-from.result c.size-n.result ∙ (λ t. part (points a.sx.now a.sy.now) (f t) (n t))),
+    )

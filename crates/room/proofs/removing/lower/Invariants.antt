@@ -1,0 +1,28 @@
+-- `room::removing::lower` takes one first place after the other. The invariant: those below e are lowered, the others are as they were, and
+-- so is everything that is no first place. Assumes nothing.
+use Prim.Native.Nat.{ℕ, ◌+◌, ◌-◌, ◌≤◌, ◌<◌}
+use native.Mathlib.Decide.{ℕ_discrete}
+use native.Mathlib.Omega.{arith}
+use mathlib.Core.Path.{◌≡◌, refl, sym, ap, ◌∙◌}
+use mathlib.Core.List.{List}
+use mathlib.Core.Logic.{◌⊎◌, inl, inr}
+use lib.Dec.{leb}
+use lib.ListN.{length, get_or, set, length-set}
+use lib.Seq.{get_or-set_same, get_or-set_other}
+use borrow.Author.Rules.{rules}
+use Rattle.ring.specs.Choices.{pick}
+use Rattle.districts.specs.Lists.{first_place}
+use Rattle.room.specs.Writing.{Lowered}
+use Rattle.room.proofs.removing.lower.Given as goal
+
+pub record Lowering (runs₀ : List ℕ) (end n : ℕ) (runs : List ℕ) (e : ℕ) : Type 0 where
+  pub le : e ≤ 64
+  pub long : length runs ≡ length runs₀
+  pub done : (k : ℕ) → k < e → first_place runs k ≡ pick (leb end (first_place runs₀ k)) (first_place runs₀ k - n) (first_place runs₀ k)
+  pub others : (k : ℕ) → (k ≡ 0) ⊎ (e < k) → get_or runs k 0 ≡ get_or runs₀ k 0
+
+abbrev pub invariant-loop-e : goal.invariant-loop-e
+invariant-loop-e l = Lowering l.initial.runs l.end l.n l.runs l.e
+
+abbrev pub decreases-loop-e : goal.decreases-loop-e
+decreases-loop-e l = 64 - l.e

@@ -1,0 +1,14 @@
+-- `wording::text::spell` stores the last digit first. The invariant: what is behind `at` is spelled, and `rest` is to be spelled
+-- up to it. Assumes nothing.
+use native.Mathlib.Omega.{arith}
+use mathlib.Core.Path.{sym, ◌∙◌}
+use lib.ListN.{length-set}
+use borrow.Author.Rules.{rules}
+use Rattle.wording.proofs.Decimals.{Spelling, spelling-none, spelling-more, spelling-all, not_first}
+use Rattle.wording.proofs.text.spell.Given as goal
+
+abbrev pub invariant-loop-rest : goal.invariant-loop-rest
+invariant-loop-rest l = Spelling l.n l.to l.at l.rest
+
+abbrev pub decreases-loop-rest : goal.decreases-loop-rest
+decreases-loop-rest l = l.at
