@@ -3,7 +3,6 @@ use mathlib.Core.Path.{ap, ◌∙◌}
 use mathlib.Core.Bool.{◌&&◌, ◌||◌}
 use lib.Dec.{eqb, leb}
 use Rattle.districts.specs.WellFormed.{sized}
-use borrow.Author.Rules.{rules}
 use Rattle.districts.proofs.counted.Goals as goal
 
 pub returns : goal.returns

@@ -1,6 +1,5 @@
 -- `districts::usable` begins with whether the lists are well-formed. Assumes nothing.
 use mathlib.Core.Path.{sym, ◌∙◌}
-use borrow.Author.Rules.{rules}
 use Rattle.districts.specs.Lent.{Lists, lent}
 use Rattle.districts.proofs.Begun.{begins-so}
 use Rattle.districts.proofs.Sound.{runs-length}

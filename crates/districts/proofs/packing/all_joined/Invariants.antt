@@ -1,14 +1,9 @@
 -- `districts::packing::all_joined` asks one number after the other. The invariant: the test so far is that of the numbers below d, and `seen` is what they have together. Assumes nothing.
-use Prim.Native.Nat.{◌-◌, ◌≤◌, ◌<◌}
-use native.Mathlib.Omega.{arith}
-use mathlib.Core.Path.{◌≡◌, ◌∙◌}
-use borrow.Author.Rules.{rules}
-use borrow.Author.Tests.{eq-eqb}
+use Prim.Native.Nat.{◌-◌, ◌≤◌}
+use mathlib.Core.Path.{◌≡◌}
 use Rattle.districts.specs.Counts.{all_to, sum_to}
 use Rattle.districts.specs.Lists.{size}
 use Rattle.districts.specs.Places.{joined}
-use Rattle.districts.proofs.Counting.{all_none, all_more, all_rest, sum-none, sum_more, term-left, rest-none}
-use Rattle.districts.proofs.Tests.{passes-left}
 use Rattle.districts.proofs.packing.all_joined.Given as goal
 
 abbrev pub invariant-loop-seen : goal.invariant-loop-seen

@@ -3,7 +3,6 @@ use Prim.Native.Nat.{◌<◌, ◌≤◌}
 use native.Mathlib.Omega.{arith}
 use mathlib.Core.Path.{sym, ◌∙◌}
 use lib.Dec.{ltb}
-use borrow.Author.Rules.{rules}
 use borrow.Author.Tests.{ltb-true, ltb-false, lt-ltb}
 use Rattle.districts.specs.Lists.{first_place, size}
 use Rattle.districts.proofs.Tests.{both_left, both_right, goes_on}

@@ -1,12 +1,9 @@
 -- `districts::packing::mark_all` marks one number after the other. The invariant: the numbers below d are marked, and `seen` is what they have together. Assumes nothing.
-use Prim.Native.Nat.{◌-◌, ◌≤◌, ◌<◌}
+use Prim.Native.Nat.{◌<◌}
 use native.Mathlib.Omega.{arith}
-use mathlib.Core.Path.{◌≡◌, refl}
-use lib.ListN.{length}
+use mathlib.Core.Path.{refl}
 use borrow.Author.Rules.{rules}
-use Rattle.districts.specs.Counts.{sum_to}
 use Rattle.districts.specs.Lists.{size}
-use Rattle.districts.specs.Places.{Marked}
 use Rattle.districts.proofs.Counting.{sum-none, sum_more, term-left, rest-none}
 use Rattle.districts.proofs.Marks.{marked-rest}
 use Rattle.districts.proofs.packing.mark_all.Goals as goal

@@ -1,14 +1,10 @@
 -- `districts::packing::mark_all` marks one number after the other. The invariant: the numbers below d are marked, and `seen` is what they have together. Assumes nothing.
-use Prim.Native.Nat.{◌-◌, ◌≤◌, ◌<◌}
-use native.Mathlib.Omega.{arith}
-use mathlib.Core.Path.{◌≡◌, refl}
+use Prim.Native.Nat.{◌-◌, ◌≤◌}
+use mathlib.Core.Path.{◌≡◌}
 use lib.ListN.{length}
-use borrow.Author.Rules.{rules}
 use Rattle.districts.specs.Counts.{sum_to}
 use Rattle.districts.specs.Lists.{size}
 use Rattle.districts.specs.Places.{Marked}
-use Rattle.districts.proofs.Counting.{sum-none, sum_more, term-left, rest-none}
-use Rattle.districts.proofs.Marks.{marked-rest}
 use Rattle.districts.proofs.packing.mark_all.Given as goal
 
 abbrev pub invariant-loop-seen : goal.invariant-loop-seen

@@ -1,6 +1,5 @@
 -- `districts::packing::met` reads the table below the end of all. Assumes nothing.
 use mathlib.Core.Path.{sym}
-use borrow.Author.Rules.{rules}
 use borrow.Author.Tests.{lt-ltb, le-ltb}
 use Rattle.ring.proofs.Pick.{pick_true, pick-false}
 use Rattle.districts.proofs.packing.met.Goals as goal

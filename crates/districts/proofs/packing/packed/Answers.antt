@@ -1,7 +1,6 @@
 -- `districts::packing::packed` clears the table, fills it, and asks where runs start and end. Assumes nothing.
 use Prim.Native.Nat.{◌≤◌}
 use mathlib.Core.Path.{refl, subst}
-use borrow.Author.Rules.{rules}
 use Rattle.districts.proofs.Chains.{both-packed}
 use Rattle.districts.proofs.Marks.{marked-none}
 use Rattle.districts.proofs.packing.packed.Goals as goal

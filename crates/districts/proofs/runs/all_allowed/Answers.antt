@@ -1,9 +1,6 @@
 -- `districts::runs::all_allowed` asks of each number in turn. The invariant: the test so far is that of the numbers below d. Assumes nothing.
-use Prim.Native.Nat.{◌≤◌, ◌-◌}
-use mathlib.Core.Path.{◌≡◌, ap, ◌∙◌}
+use mathlib.Core.Path.{ap, ◌∙◌}
 use borrow.Author.Rules.{rules}
-use Rattle.districts.specs.Counts.{all_to}
-use Rattle.districts.specs.Lists.{size}
 use Rattle.districts.specs.WellFormed.{sized}
 use Rattle.districts.proofs.Counting.{all_none, all_more, all_end}
 use Rattle.districts.proofs.runs.all_allowed.Goals as goal

@@ -1,8 +1,4 @@
 -- `districts::runs::total` adds up the 64 sizes. The invariant: the sum so far is that of the numbers below d, each below 2 ^ 32. Assumes nothing.
-use Prim.Native.Nat.{◌*◌, ◌≤◌, ◌-◌}
-use mathlib.Core.Path.{◌≡◌}
-use Rattle.districts.specs.Counts.{sum_to}
-use Rattle.districts.specs.Lists.{size}
 use Rattle.districts.proofs.Counting.{sum-none, sum_more, sum-end}
 use borrow.Author.Rules.{rules}
 use Rattle.districts.proofs.runs.total.Goals as goal

@@ -3,8 +3,6 @@ use Prim.Native.Nat.{◌*◌, ◌≤◌, ◌-◌}
 use mathlib.Core.Path.{◌≡◌}
 use Rattle.districts.specs.Counts.{sum_to}
 use Rattle.districts.specs.Lists.{size}
-use Rattle.districts.proofs.Counting.{sum-none, sum_more, sum-end}
-use borrow.Author.Rules.{rules}
 use Rattle.districts.proofs.runs.total.Given as goal
 
 abbrev pub invariant-loop-d : goal.invariant-loop-d
