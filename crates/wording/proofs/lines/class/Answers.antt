@@ -4,12 +4,7 @@ use Rattle.districts.specs.Answers.{belongs}
 use Rattle.wording.specs.Text.{ascii}
 use Rattle.wording.specs.Lines.{belongs_text}
 use Rattle.wording.proofs.Laying.{laid_as}
-use borrow.Author.Rules.{rules}
 use Rattle.wording.proofs.lines.class.Goals as goal
-
-pub returns-in-Border : goal.returns-in-Border
-unfolding ascii
-returns-in-Border c = laid_as (ap (λ b. belongs_text (belongs b)) (sym c.in-Border.is)) c.border.ensures
 
 pub returns-in-One : goal.returns-in-One
 unfolding ascii

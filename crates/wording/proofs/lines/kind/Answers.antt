@@ -3,7 +3,6 @@ use mathlib.Core.Path.{sym, ap}
 use Rattle.wording.specs.Text.{ascii}
 use Rattle.wording.specs.Lines.{kind_text, kind_of}
 use Rattle.wording.proofs.Laying.{laid_as}
-use borrow.Author.Rules.{rules}
 use Rattle.wording.proofs.lines.kind.Goals as goal
 
 pub returns-in-Outline : goal.returns-in-Outline

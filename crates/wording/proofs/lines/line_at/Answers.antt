@@ -7,7 +7,6 @@ use Rattle.wording.specs.Lines.{kind_of, said_of}
 use Rattle.wording.proofs.Laying.{joined}
 use Rattle.wording.proofs.Decimals.{decimal-short}
 use Rattle.wording.proofs.Written.{kind-short, said-short}
-use borrow.Author.Rules.{rules}
 use Rattle.wording.proofs.lines.line_at.Goals as goal
 
 -- where each part ends at most
@@ -33,7 +32,7 @@ put-requires c =
 pub returns : goal.returns
 unfolding ascii
 returns c =
-    let begins : c.args.at ≤ length c.args.to.now = omega (arith, c.pre) in
+    let begins : c.args.at ≤ length c.args.to.now = omega (arith, c.requires) in
     let two = joined begins c.number-numbered.ensures c.kind-named.ensures in
     let three = joined begins two c.said-answered.ensures in
     joined begins three c.put.ensures

@@ -3,7 +3,6 @@ use mathlib.Core.Path.{sym, ap}
 use Rattle.wording.specs.Text.{ascii}
 use Rattle.wording.specs.Lines.{said_text, said_of}
 use Rattle.wording.proofs.Laying.{laid_as}
-use borrow.Author.Rules.{rules}
 use Rattle.wording.proofs.lines.said.Goals as goal
 
 pub returns-in-Ok : goal.returns-in-Ok
@@ -13,10 +12,6 @@ returns-in-Ok c = laid_as (ap (λ a. said_text (said_of a)) (sym c.in-Ok.is)) c.
 pub returns-in-OkWith : goal.returns-in-OkWith
 unfolding ascii
 returns-in-OkWith c = laid_as (ap (λ a. said_text (said_of a)) (sym c.in-OkWith.is)) c.worded.ensures
-
-pub returns-in-Sorted : goal.returns-in-Sorted
-unfolding ascii
-returns-in-Sorted c = laid_as (ap (λ a. said_text (said_of a)) (sym c.in-Sorted.is)) c.class.ensures
 
 pub returns-in-Refused : goal.returns-in-Refused
 unfolding ascii

@@ -4,7 +4,6 @@ use Rattle.ring.specs.Locate.{touch_of}
 use Rattle.wording.specs.Text.{ascii}
 use Rattle.wording.specs.Lines.{touch_text}
 use Rattle.wording.proofs.Laying.{laid_as}
-use borrow.Author.Rules.{rules}
 use Rattle.wording.proofs.lines.touched.Goals as goal
 
 pub returns-in-Vertex : goal.returns-in-Vertex

@@ -1,8 +1,6 @@
--- `wording::text::put` lays a text element by element. The invariant: the first k are laid, the rest is as it was. Assumes nothing.
-use Prim.Native.Nat.{◌-◌}
-use lib.ListN.{length}
-use borrow.Author.Rules.{rules}
-use Rattle.wording.proofs.Laying.{Begun, begun-none, begun_more, begun_all}
+-- The invariant: the first k are laid, the rest is as it was. Assumes nothing.
+use Rattle.std.proofs.Common.{◌-◌, length}
+use Rattle.wording.proofs.Laying.{Begun}
 use Rattle.wording.proofs.text.put.Given as goal
 
 abbrev pub invariant-loop-k : goal.invariant-loop-k

@@ -1,10 +1,5 @@
--- `wording::text::spell` stores the last digit first. The invariant: what is behind `at` is spelled, and `rest` is to be spelled
--- up to it. Assumes nothing.
-use native.Mathlib.Omega.{arith}
-use mathlib.Core.Path.{sym, ◌∙◌}
-use lib.ListN.{length-set}
-use borrow.Author.Rules.{rules}
-use Rattle.wording.proofs.Decimals.{Spelling, spelling-none, spelling-more, spelling-all, not_first}
+-- The last digit is stored first. The invariant: what is behind `at` is spelled, and `rest` is to be spelled up to it. Assumes nothing.
+use Rattle.wording.proofs.Decimals.{Spelling}
 use Rattle.wording.proofs.text.spell.Given as goal
 
 abbrev pub invariant-loop-rest : goal.invariant-loop-rest
