@@ -6,12 +6,10 @@ use mathlib.Core.List.{◌++◌, reverse}
 use Rattle.ring.specs.Grid.{vertices}
 use Rattle.room.specs.Runs.{run}
 use Rattle.room.proofs.Written.{one-length, added}
-use borrow.Author.Rules.{rules}
 use Rattle.room.proofs.adding.add_run_and_path.Goals as goal
 
 pub returns : goal.returns
 returns c =
-    let s = c.before in
-    let a = s.args in
-    let many = one-length (vertices a.ring.now) a.i a.c a.path.now a.k s.requires.1.1.1.0 in
-    added a.sx.now a.sy.now a.runs.now a.e (run (vertices a.ring.now) a.i a.c ++ reverse (vertices a.path.now)) _ c.total-free.ensures (omega (arith, c.total-free.ensures, s.requires)) (omega (arith, c.total-free.ensures, s.requires)) _ _ c.write_run_and_path.ensures _ (a.c + a.k) (sym many) c.enter.ensures
+    let a = c.args in
+    let many = one-length (vertices a.ring.now) a.i a.c a.path.now a.k c.requires.path_len in
+    added a.sx.now a.sy.now a.runs.now a.e (run (vertices a.ring.now) a.i a.c ++ reverse (vertices a.path.now)) _ c.total-free.ensures (omega (arith, c.total-free.ensures, c.requires)) (omega (arith, c.total-free.ensures, c.requires)) _ _ c.write_run_and_path.ensures _ (a.c + a.k) (sym many) c.enter.ensures

@@ -1,7 +1,6 @@
 -- `room::adding::enter` writes the two numbers. Assumes nothing.
 use native.Mathlib.Omega.{arith}
 use lib.ListN.{length-set}
-use borrow.Author.Rules.{rules}
 use Rattle.room.proofs.adding.enter.Goals as goal
 
 pub bounds-runs-e-2 : goal.bounds-runs-e-2

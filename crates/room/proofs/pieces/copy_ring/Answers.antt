@@ -6,7 +6,6 @@ use Rattle.districts.specs.Lists.{part}
 use Rattle.districts.specs.Lent.{written}
 use Rattle.districts.proofs.Lent.{cut-points}
 use Rattle.room.specs.Writing.{numbers_of}
-use borrow.Author.Rules.{rules}
 use Rattle.room.proofs.pieces.copy_ring.Goals as goal
 
 pub returns : goal.returns

@@ -1,7 +1,7 @@
 -- `room::pieces::interleave` writes the two numbers of one point after the other. The invariant: the numbers of the first k are written. Assumes nothing.
-use Prim.Native.Nat.{◌+◌, ◌-◌, ◌≤◌}
+use Prim.Native.Nat.{◌+◌, ◌≤◌}
 use native.Mathlib.Omega.{arith}
-use mathlib.Core.Path.{◌≡◌, refl}
+use mathlib.Core.Path.{refl}
 use lib.IntN.{pos}
 use lib.ListN.{length, get_or, length-set}
 use mir.Syntax.{w32}
@@ -11,7 +11,7 @@ use borrow.Author.Rules.{rules}
 use Rattle.ring.specs.Columns.{points}
 use Rattle.ring.proofs.Columns.{length-points}
 use Rattle.room.specs.Writing.{numbers_of}
-use Rattle.room.proofs.Written.{numbers-length, Writing, writing-none, pair-more, writing-all}
+use Rattle.room.proofs.Written.{numbers-length, writing-none, pair-more, writing-all}
 use Rattle.room.proofs.pieces.interleave.Goals as goal
 
 pub loop-k-init : goal.loop-k-init

@@ -5,11 +5,9 @@ use native.Mathlib.Omega.{arith}
 use mathlib.Core.Path.{◌≡◌, refl, sym, ap, ◌∙◌}
 use mathlib.Core.List.{reverse}
 use lib.ListN.{length, get_or, length-reverse}
-use borrow.Author.Rules.{rules}
 use Rattle.ring.specs.Grid.{vertices}
-use Rattle.ring.specs.Columns.{points}
 use Rattle.ring.proofs.Vertices.{origin, at-within, length-vertices}
-use Rattle.room.proofs.Written.{reverse-at, Writing, writing-none, put-more, writing-all}
+use Rattle.room.proofs.Written.{reverse-at, writing-none, put-more, writing-all}
 use Rattle.room.proofs.pieces.write_back.Goals as goal
 
 -- the path has k points
@@ -40,8 +38,8 @@ loop-t-preserved c =
           ∙ ap (λ n. get_or W (n - 1 - t) origin) (sym size)
           ∙ sym (reverse-at W t (omega (arith, size, more))))
           c.put.ensures c.loop-t.invariant.0,
-      c.put.auto.0 ∙ c.loop-t.invariant.1,
-      c.put.auto.1.0 ∙ c.loop-t.invariant.2,
+      c.put.auto.xs ∙ c.loop-t.invariant.1,
+      c.put.auto.ys ∙ c.loop-t.invariant.2,
     )
 
 pub returns : goal.returns

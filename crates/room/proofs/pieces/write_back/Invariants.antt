@@ -1,15 +1,12 @@
 -- `room::pieces::write_back` writes the path's points from the last to the first. The invariant: the first t of them are
 -- written, and the columns are as long as they came. Assumes nothing.
-use Prim.Native.Nat.{◌-◌, ◌<◌}
-use native.Mathlib.Omega.{arith}
-use mathlib.Core.Path.{◌≡◌, refl, sym, ap, ◌∙◌}
+use Prim.Native.Nat.{◌-◌}
+use mathlib.Core.Path.{◌≡◌}
 use mathlib.Core.List.{reverse}
-use lib.ListN.{length, get_or, length-reverse}
-use borrow.Author.Rules.{rules}
+use lib.ListN.{length}
 use Rattle.ring.specs.Grid.{vertices}
 use Rattle.ring.specs.Columns.{points}
-use Rattle.ring.proofs.Vertices.{origin, at-within, length-vertices}
-use Rattle.room.proofs.Written.{reverse-at, Writing, writing-none, put-more, writing-all}
+use Rattle.room.proofs.Written.{Writing}
 use Rattle.room.proofs.pieces.write_back.Given as goal
 
 abbrev pub invariant-loop-t : goal.invariant-loop-t

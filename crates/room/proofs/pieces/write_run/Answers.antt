@@ -1,15 +1,12 @@
 -- `room::pieces::write_run` writes the vertices of the run one after the other. The invariant: the first k are written, and the columns are as long as they came. Assumes nothing.
-use Prim.Native.Nat.{◌+◌, ◌-◌}
+use Prim.Native.Nat.{◌+◌}
 use native.Mathlib.Omega.{arith}
-use mathlib.Core.Path.{◌≡◌, refl, sym, ap, ◌∙◌}
-use lib.ListN.{length}
-use borrow.Author.Rules.{rules}
+use mathlib.Core.Path.{refl, sym, ap, ◌∙◌}
 use Rattle.ring.specs.Grid.{vertices}
 use Rattle.ring.specs.Rings.{at}
-use Rattle.ring.specs.Columns.{points}
 use Rattle.ring.proofs.Vertices.{at_rest, length-vertices}
 use Rattle.room.specs.Runs.{run}
-use Rattle.room.proofs.Written.{run_length, run_at, Writing, writing-none, put-more, writing-all}
+use Rattle.room.proofs.Written.{run_length, run_at, writing-none, put-more, writing-all}
 use Rattle.room.proofs.pieces.write_run.Goals as goal
 
 pub loop-k-init : goal.loop-k-init
@@ -42,8 +39,8 @@ loop-k-preserved c =
           ∙ at_rest P a.n (a.i + c.loop-k.k) (length-vertices a.ring.now a.n c.requires.ring_len)
           ∙ sym (run_at P a.i a.c c.loop-k.k more))
           c.put.ensures c.loop-k.invariant.0,
-      c.put.auto.0 ∙ c.loop-k.invariant.1,
-      c.put.auto.1.0 ∙ c.loop-k.invariant.2,
+      c.put.auto.xs ∙ c.loop-k.invariant.1,
+      c.put.auto.ys ∙ c.loop-k.invariant.2,
     )
 
 pub returns : goal.returns

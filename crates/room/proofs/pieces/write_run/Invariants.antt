@@ -1,15 +1,11 @@
 -- `room::pieces::write_run` writes the vertices of the run one after the other. The invariant: the first k are written, and the columns are as long as they came. Assumes nothing.
-use Prim.Native.Nat.{◌+◌, ◌-◌}
-use native.Mathlib.Omega.{arith}
-use mathlib.Core.Path.{◌≡◌, refl, sym, ap, ◌∙◌}
+use Prim.Native.Nat.{◌-◌}
+use mathlib.Core.Path.{◌≡◌}
 use lib.ListN.{length}
-use borrow.Author.Rules.{rules}
 use Rattle.ring.specs.Grid.{vertices}
-use Rattle.ring.specs.Rings.{at}
 use Rattle.ring.specs.Columns.{points}
-use Rattle.ring.proofs.Vertices.{at_rest, length-vertices}
 use Rattle.room.specs.Runs.{run}
-use Rattle.room.proofs.Written.{run_length, run_at, Writing, writing-none, put-more, writing-all}
+use Rattle.room.proofs.Written.{Writing}
 use Rattle.room.proofs.pieces.write_run.Given as goal
 
 abbrev pub invariant-loop-k : goal.invariant-loop-k

@@ -3,7 +3,6 @@ use native.Mathlib.Omega.{arith}
 use Rattle.ring.specs.Grid.{vertices}
 use Rattle.room.specs.Runs.{run}
 use Rattle.room.proofs.Written.{run_length, points-both}
-use borrow.Author.Rules.{rules}
 use Rattle.room.proofs.pieces.write_run_and_path.Goals as goal
 
 pub returns : goal.returns

@@ -7,7 +7,7 @@ use mir.Syntax.{w32}
 use mir.Val.{SFits}
 use mir.Facts.{to_z-of_z}
 use borrow.Author.Rules.{rules}
-use Rattle.room.proofs.Moving.{Moved, moved_none, moved_more, moved_all}
+use Rattle.room.proofs.Moving.{moved_none, moved_more, moved_all}
 use Rattle.room.proofs.removing.close.Goals as goal
 
 pub loop-i-init : goal.loop-i-init

@@ -49,19 +49,19 @@ pub loop-e-init : goal.loop-e-init
 loop-e-init c = record { le = omega arith; long = refl; done = λ k i. absurd (omega arith); others = λ k i. refl }
 
 pub first_place-requires : goal.first_place-requires
-first_place-requires c = record { runs_len = c.loop.invariant.long ∙ c.before.requires.0; d_bound = search rules }
+first_place-requires c = record { runs_len = c.loop-e.invariant.long ∙ c.requires.runs_len; d_bound = search rules }
 
 pub bounds-runs-e : goal.bounds-runs-e
 bounds-runs-e c =
-    omega (arith, c.loop.invariant.long, c.before.requires, c.loop-test.true)
+    omega (arith, c.loop-e.invariant.long, c.requires, c.loop-e-test.true)
 
 pub loop-e-preserved : goal.loop-e-preserved
 loop-e-preserved c =
-    let start = c.before in
+    let a = c.args in
     let p = c.first_place.ensures.0 in
-    lowering-more start.args.runs.now start.args.end start.args.n c.loop.runs c.loop.e c.lowered.result start.requires.0 c.loop-test.true
-    (c.lowered.ensures.0 ∙ ap (λ p. pick (leb start.args.end p) (p - start.args.n) p) p)
-    c.loop.invariant
+    lowering-more a.runs.now a.end a.n c.loop-e.runs c.loop-e.e c.lowered.result c.requires.runs_len c.loop-e-test.true
+    (c.lowered.ensures.0 ∙ ap (λ p. pick (leb a.end p) (p - a.n) p) p)
+    c.loop-e.invariant
 
 pub returns : goal.returns
 returns c = lowering-all _ _ _ _ _ c.loop-e-test.false c.loop-e.invariant

@@ -1,18 +1,13 @@
 -- `room::removing::lower` takes one first place after the other. The invariant: those below e are lowered, the others are as they were, and
 -- so is everything that is no first place. Assumes nothing.
-use Prim.Native.Nat.{ℕ, ◌+◌, ◌-◌, ◌≤◌, ◌<◌}
-use native.Mathlib.Decide.{ℕ_discrete}
-use native.Mathlib.Omega.{arith}
-use mathlib.Core.Path.{◌≡◌, refl, sym, ap, ◌∙◌}
+use Prim.Native.Nat.{ℕ, ◌-◌, ◌≤◌, ◌<◌}
+use mathlib.Core.Path.{◌≡◌}
 use mathlib.Core.List.{List}
-use mathlib.Core.Logic.{◌⊎◌, inl, inr}
+use mathlib.Core.Logic.{◌⊎◌}
 use lib.Dec.{leb}
-use lib.ListN.{length, get_or, set, length-set}
-use lib.Seq.{get_or-set_same, get_or-set_other}
-use borrow.Author.Rules.{rules}
+use lib.ListN.{length, get_or}
 use Rattle.ring.specs.Choices.{pick}
 use Rattle.districts.specs.Lists.{first_place}
-use Rattle.room.specs.Writing.{Lowered}
 use Rattle.room.proofs.removing.lower.Given as goal
 
 pub record Lowering (runs₀ : List ℕ) (end n : ℕ) (runs : List ℕ) (e : ℕ) : Type 0 where

@@ -6,7 +6,6 @@ use mathlib.Core.List.{List, ◌++◌, append_assoc}
 use lib.IntN.{ℤ}
 use lib.ListN.{length, take, drop, set, length-set, length-append, length-drop}
 use lib.Seq.{length-paste, take_at, drop_at, length-take-le, get_or-set_same, get_or-set_other}
-use borrow.Author.Rules.{rules}
 use Rattle.ring.specs.declared.Point.{Point}
 use Rattle.ring.specs.Columns.{points}
 use Rattle.ring.proofs.Columns.{length-points, points-take, points-drop, points-append, same-take, same_drop}
@@ -82,15 +81,14 @@ removed store runs d runs₁ a b h fits most l =
 
 pub returns : goal.returns
 returns c =
-    let start = c.before.before.before in
-    let a = start.args in
+    let a = c.args in
     let xs = a.sx.now in
     let ys = a.sy.now in
-    let even : length xs ≡ length ys = omega (arith, start.requires.0) in
-    let place = c.first-place.ensures.0 in
-    let many = c.size.ensures.0 in
+    let even : length xs ≡ length ys = omega (arith, c.requires.sx_len) in
+    let place = c.first_place-at.ensures.0 in
+    let many = c.size-n.ensures.0 in
     let whole = c.total-all.ensures in
-    subst (λ P. Left (points xs ys) a.runs.now a.d P (set c.lower.new.0 (65 + a.d) 0))
-    (sym ((λ i. points (c.close.ensures i) (c.close-2.ensures i)) ∙ both-closed xs ys c.first-place.result (c.first-place.result + c.size.result) c.total-all.result even ∙ (λ i. closed (points xs ys) (place i) (place i + many i) (whole i))))
-    (removed (points xs ys) a.runs.now a.d c.lower.new.0 (length-points xs ys even ∙ start.requires.0.0) start.requires.1.0 start.requires.1.1.0 start.requires.1.1.1.0 start.requires.1.1.1.1
-    (transport (λ i. Lowered a.runs.now (place i + many i) (many i) c.lower.new.0) c.lower.ensures))
+    subst (λ P. Left (points xs ys) a.runs.now a.d P (set c.lower.new.runs (65 + a.d) 0))
+    (sym ((λ i. points (c.close.ensures i) (c.close-2.ensures i)) ∙ both-closed xs ys c.first_place-at.result (c.first_place-at.result + c.size-n.result) c.total-all.result even ∙ (λ i. closed (points xs ys) (place i) (place i + many i) (whole i))))
+    (removed (points xs ys) a.runs.now a.d c.lower.new.runs (length-points xs ys even ∙ c.requires.sx_len.0) c.requires.runs_len c.requires.d_bound c.requires.d_bound_2.0 c.requires.d_bound_2.1
+    (transport (λ i. Lowered a.runs.now (place i + many i) (many i) c.lower.new.runs) c.lower.ensures))
