@@ -1,15 +1,7 @@
 -- `ring::counting::blocks`: the closing edge, and after some blocks the first i edges. The measure is the number of edges left. Assumes nothing.
 use Prim.Native.Nat.{◌-◌, ◌≤◌}
-use native.Mathlib.Omega.{arith}
-use native.Mathlib.Nat.{zero-add}
-use mathlib.Core.Path.{◌≡◌, sym, subst}
-use lib.ListN.{length}
-use borrow.Author.Rules.{rules}
-use Rattle.ring.specs.declared.Point.{Point}
 use Rattle.ring.specs.Grid.{vertices}
-use Rattle.ring.specs.Walk.{Ready, Counts, none}
-use Rattle.ring.proofs.Vertices.{length-vertices}
-use Rattle.ring.proofs.Walks.{ready-clean, counts-none, counts-on, counts_all}
+use Rattle.ring.specs.Walk.{Counts}
 use Rattle.ring.proofs.counting.blocks.Given as goal
 
 abbrev pub invariant-loop-i : goal.invariant-loop-i

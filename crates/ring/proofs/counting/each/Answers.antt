@@ -1,21 +1,14 @@
 -- `ring::counting::each`: the closing edge, and then the first edges, as many as vertices were met from place 2 of the list on. The measure is how much of the list is left. Assumes nothing.
-use Prim.Native.Nat.{ℕ, ◌+◌, ◌-◌, ◌/◌, ◌<◌}
+use Prim.Native.Nat.{ℕ, ◌+◌, ◌/◌, ◌<◌}
 use native.Mathlib.Nat.{zero-add}
 use native.Mathlib.Omega.{arith}
 use mathlib.Core.Path.{◌≡◌, sym, subst}
-use mathlib.Core.List.{List}
-use lib.IntN.{ℤ}
 use lib.ListN.{length}
-use borrow.Author.Rules.{rules}
-use Rattle.ring.specs.declared.Point.{Point}
-use Rattle.ring.specs.declared.counting.End.{End}
-use Rattle.ring.specs.declared.counting.Count.{Count}
 use Rattle.ring.specs.Grid.{vertices}
 use Rattle.ring.specs.Rings.{at}
 use Rattle.ring.specs.Walk.{head_of, Clean, Sight, Counts}
 use Rattle.ring.proofs.Vertices.{length-vertices}
 use Rattle.ring.proofs.Walks.{ready-clean, counts-none, counts-edge, counts-on, counts_all}
-use Rattle.ring.proofs.counting.each.Invariants.{Walked}
 use Rattle.ring.proofs.counting.each.Goals as goal
 
 -- the count c became v along the first edges, and `from` is where they end; the next vertex stands at place k

@@ -1,20 +1,15 @@
 -- `ring::counting::each`: the closing edge, and then the first edges, as many as vertices were met from place 2 of the list on. The measure is how much of the list is left. Assumes nothing.
-use Prim.Native.Nat.{ℕ, ◌+◌, ◌-◌, ◌/◌, ◌<◌}
-use native.Mathlib.Nat.{zero-add}
-use native.Mathlib.Omega.{arith}
-use mathlib.Core.Path.{◌≡◌, sym, subst}
+use Prim.Native.Nat.{ℕ, ◌+◌, ◌-◌, ◌<◌}
+use mathlib.Core.Path.{◌≡◌}
 use mathlib.Core.List.{List}
 use lib.IntN.{ℤ}
 use lib.ListN.{length}
-use borrow.Author.Rules.{rules}
 use Rattle.ring.specs.declared.Point.{Point}
 use Rattle.ring.specs.declared.counting.End.{End}
 use Rattle.ring.specs.declared.counting.Count.{Count}
 use Rattle.ring.specs.Grid.{vertices}
 use Rattle.ring.specs.Rings.{at}
-use Rattle.ring.specs.Walk.{head_of, Clean, Sight, Counts}
-use Rattle.ring.proofs.Vertices.{length-vertices}
-use Rattle.ring.proofs.Walks.{ready-clean, counts-none, counts-edge, counts-on, counts_all}
+use Rattle.ring.specs.Walk.{head_of, Sight, Counts}
 use Rattle.ring.proofs.counting.each.Given as goal
 
 pub record Walked (xs : List ℤ) (n : ℕ) (R : Point) (c v : Count) (from : End) (k : ℕ) : Type 0 where

@@ -1,5 +1,5 @@
 -- `ring::counting::missed`: after j vertices each of the four tests tells of those j. The measure is the number of vertices left. Assumes nothing.
-use Prim.Native.Nat.{suc, ◌+◌, ◌-◌, ◌≤◌}
+use Prim.Native.Nat.{◌+◌}
 use native.Mathlib.Omega.{arith}
 use mathlib.Core.Path.{◌≡◌, ap, ◌∙◌}
 use lib.Signed.{lt_z}
@@ -10,7 +10,7 @@ use Rattle.ring.specs.Grid.{vertices}
 use Rattle.ring.specs.Rings.{at}
 use Rattle.ring.proofs.OnGrid.{vertex-on-grid, held}
 use Rattle.ring.proofs.Vertices.{pair-within}
-use Rattle.ring.proofs.Walks.{Tells, tells_none, tells_more, told-aside}
+use Rattle.ring.proofs.Walks.{tells_none, tells_more, told-aside}
 use Rattle.ring.proofs.counting.missed.Goals as goal
 
 pub loop-j-init : goal.loop-j-init
@@ -31,32 +31,24 @@ overflow_add-j c =
 pub loop-j-smaller : goal.loop-j-smaller
 loop-j-smaller c = omega (arith, c.loop-j-test.true)
 
--- the coordinates that were compared
-
-record Compared (c : tie.After-vertex invariant-loop decreases-loop) (p : Point) : Type 0 where
-  x : to_z w32 (of_z w32 c.vertex.result.x) ≡ p.x
-  y : to_z w32 (of_z w32 c.vertex.result.y) ≡ p.y
-  own_x : to_z w32 (of_z w32 c.before.before.before.args.r.x) ≡ c.before.before.before.args.r.x
-  own-y : to_z w32 (of_z w32 c.before.before.before.args.r.y) ≡ c.before.before.before.args.r.y
-
 pub loop-j-preserved : goal.loop-j-preserved
 loop-j-preserved c =
-    let compared : Compared c.before.before.before.before.before.before.before.before.before.before.before.before.before.before.before.before (at (vertices c.args.ring.now) (c.args.i + c.loop-j.j)) = let r = c.requires.clean.point in
+    let P = vertices c.args.ring.now in
+    let R = c.args.r in
+    let Q = at P (c.args.i + c.loop-j.j) in
+    let r = c.requires.clean.point in
     let g = vertex-on-grid c.args.ring.now c.requires.clean.grid (c.args.i + c.loop-j.j) in
-    record {
-      x = ap (λ p. to_z w32 (of_z w32 p.x)) c.vertex-p.ensures ∙ held _ g.across;
-      y = ap (λ p. to_z w32 (of_z w32 p.y)) c.vertex-p.ensures ∙ held _ g.up;
-      own_x = held _ r.across;
-      own-y = held _ r.up;
-    } in
+    let x : to_z w32 (of_z w32 c.vertex-p.result.x) ≡ Q.x = ap (λ (p : Point). to_z w32 (of_z w32 p.x)) c.vertex-p.ensures ∙ held _ g.across in
+    let y : to_z w32 (of_z w32 c.vertex-p.result.y) ≡ Q.y = ap (λ (p : Point). to_z w32 (of_z w32 p.y)) c.vertex-p.ensures ∙ held _ g.up in
+    let own_x : to_z w32 (of_z w32 R.x) ≡ R.x = held _ r.across in
+    let own_y : to_z w32 (of_z w32 R.y) ≡ R.y = held _ r.up in
     let j = c.loop-j.j in
-    let (le, north, south, east, west) = c.loop-j.invariant in
-    let s = compared in (
+    let (le, north, south, east, west) = c.loop-j.invariant in (
       omega (arith, c.loop-j-test.true),
-      tells_more c.loop-j.north _ _ j (λ i. lt_z (s.own-y i) (s.y i)) north,
-      tells_more c.loop-j.south _ _ j (λ i. lt_z (s.y i) (s.own-y i)) south,
-      tells_more c.loop-j.east _ _ j (λ i. lt_z (s.own_x i) (s.x i)) east,
-      tells_more c.loop-j.west _ _ j (λ i. lt_z (s.x i) (s.own_x i)) west,
+      tells_more c.loop-j.north _ _ j (λ i. lt_z (own_y i) (y i)) north,
+      tells_more c.loop-j.south _ _ j (λ i. lt_z (y i) (own_y i)) south,
+      tells_more c.loop-j.east _ _ j (λ i. lt_z (own_x i) (x i)) east,
+      tells_more c.loop-j.west _ _ j (λ i. lt_z (x i) (own_x i)) west,
     )
 
 pub returns : goal.returns

@@ -1,16 +1,9 @@
 -- `ring::counting::missed`: after j vertices each of the four tests tells of those j. The measure is the number of vertices left. Assumes nothing.
 use Prim.Native.Nat.{suc, ◌+◌, ◌-◌, ◌≤◌}
-use native.Mathlib.Omega.{arith}
-use mathlib.Core.Path.{◌≡◌, ap, ◌∙◌}
 use lib.Signed.{lt_z}
-use mir.Syntax.{w32}
-use mir.Val.{to_z, of_z}
-use Rattle.ring.specs.declared.Point.{Point}
 use Rattle.ring.specs.Grid.{vertices}
 use Rattle.ring.specs.Rings.{at}
-use Rattle.ring.proofs.OnGrid.{vertex-on-grid, held}
-use Rattle.ring.proofs.Vertices.{pair-within}
-use Rattle.ring.proofs.Walks.{Tells, tells_none, tells_more, told-aside}
+use Rattle.ring.proofs.Walks.{Tells}
 use Rattle.ring.proofs.counting.missed.Given as goal
 
 abbrev pub invariant-loop-j : goal.invariant-loop-j

@@ -1,6 +1,5 @@
 -- `ring::counting::seen` is the way to a vertex, with its mark. Assumes nothing.
 use mathlib.Core.Path.{sym, subst}
-use borrow.Author.Rules.{rules}
 use Rattle.ring.specs.Grid.{vertices}
 use Rattle.ring.specs.Rings.{at}
 use Rattle.ring.specs.Walk.{head_of, Way}

@@ -1,5 +1,5 @@
 -- `ring::grid::four_beyond` tests four numbers. Assumes nothing.
-use mathlib.Core.Path.{◌≡◌, ap, ◌∙◌}
+use mathlib.Core.Path.{ap, ◌∙◌}
 use mathlib.Core.Bool.{◌||◌}
 use lib.IntN.{pos}
 use lib.ListN.{get_or}

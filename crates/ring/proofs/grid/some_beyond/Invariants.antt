@@ -1,19 +1,12 @@
 -- `ring::grid::some_beyond` looks at every number. The invariant: a number of the list is beyond the grid exactly if one was found
 -- or one is left to find. Assumes nothing.
-use Prim.Native.Nat.{ℕ, suc, ◌+◌, ◌≤◌, ◌<◌, ◌-◌}
-use native.Mathlib.Numerals.{add-one}
-use native.Mathlib.Omega.{arith}
-use mathlib.Core.Path.{◌≡◌, refl, sym, ap, ◌∙◌}
-use mathlib.Core.Bool.{Bool, true, false, ◌||◌}
+use Prim.Native.Nat.{ℕ, ◌≤◌, ◌-◌}
+use mathlib.Core.Path.{◌≡◌}
+use mathlib.Core.Bool.{Bool, ◌||◌}
 use mathlib.Core.List.{List}
-use lib.IntN.{ℤ, pos}
-use lib.ListN.{length, get_or, drop, drop_of_length-le}
-use lib.Seq.{drop-cons}
-use mir.Syntax.{w32}
-use mir.Val.{SFits}
-use mir.Facts.{to_z-of_z}
-use borrow.Author.Rules.{rules}
-use Rattle.ring.specs.Grid.{beyond, some_beyond}
+use lib.IntN.{ℤ}
+use lib.ListN.{length, drop}
+use Rattle.ring.specs.Grid.{some_beyond}
 use Rattle.ring.proofs.grid.some_beyond.Given as goal
 
 pub record Looked (list : List ℤ) (found : Bool) (i : ℕ) : Type 0 where

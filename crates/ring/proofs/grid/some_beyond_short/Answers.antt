@@ -1,10 +1,8 @@
 -- `ring::grid::some_beyond_short` goes by fours. The invariant: no number before i is beyond the grid, and i is at most four past the last four's place. Assumes nothing.
-use Prim.Native.Nat.{◌+◌, ◌-◌, ◌<◌}
 use native.Mathlib.Omega.{arith}
 use mathlib.Core.Path.{sym, ◌∙◌}
-use borrow.Author.Rules.{rules}
-use Rattle.ring.proofs.Search.{Unmet, unmet-none}
-use Rattle.ring.proofs.Within.{beyond_at, four-more, four-found, four-all}
+use Rattle.ring.proofs.Search.{unmet-none}
+use Rattle.ring.proofs.Within.{four-more, four-found, four-all}
 use Rattle.ring.proofs.grid.some_beyond_short.Goals as goal
 
 pub loop-i-init : goal.loop-i-init

@@ -1,15 +1,9 @@
 -- `ring::places::edges` takes every edge in turn. The invariant: the span is that of the edges before e, and `from` leads to vertex e. Assumes nothing.
-use Prim.Native.Nat.{ℕ, suc, ◌-◌, ◌<◌}
+use Prim.Native.Nat.{ℕ, suc}
 use native.Mathlib.Numerals.{add-one}
 use native.Mathlib.Omega.{arith}
 use mathlib.Core.Path.{◌≡◌, sym, ap, subst, ◌∙◌}
-use mathlib.Core.List.{List}
-use lib.IntN.{ℤ}
 use lib.ListN.{length}
-use borrow.Author.Rules.{rules}
-use Rattle.exact.specs.declared.Arrow.{Arrow}
-use Rattle.ring.specs.declared.Point.{Point}
-use Rattle.ring.specs.declared.places.Span.{Span}
 use Rattle.ring.specs.Grid.{vertices}
 use Rattle.ring.specs.Rings.{at}
 use Rattle.ring.specs.Locate.{on_edge}
@@ -17,16 +11,12 @@ use Rattle.ring.specs.Walk.{head_of, Way}
 use Rattle.ring.proofs.Vertices.{length-vertices, at-end}
 use Rattle.ring.proofs.Walks.{ready-clean}
 use Rattle.ring.proofs.Spans.{Spans, spans-none, spans-edge, spans_all}
-use Rattle.ring.proofs.places.edges.Invariants.{Walked}
 use Rattle.ring.proofs.places.edges.Goals as goal
 
--- vertex k may be looked at
-
-seen : (c : goal.Start) (k : ℕ) → k < c.args.n → k < length (vertices c.args.ring.now)
-seen c k h = omega (arith, size)
-
 pub way-from-requires : goal.way-from-requires
-way-from-requires c = record { clean = ready-clean c.args.ring.now c.args.n (head_of c.args.r) c.requires; i_in_bounds = seen c 0 (omega (arith, c.requires.least)) }
+way-from-requires c =
+    let size : length (vertices c.args.ring.now) ≡ c.args.n = length-vertices c.args.ring.now c.args.n c.requires.even in
+    record { clean = ready-clean c.args.ring.now c.args.n (head_of c.args.r) c.requires; i_in_bounds = omega (arith, c.requires.least) }
 
 pub loop-e-init : goal.loop-e-init
 loop-e-init c = record { within = omega (arith, c.requires.least); met = spans-none _ _; way = c.way-from.ensures }
@@ -36,7 +26,8 @@ overflow_add-e c = omega (arith, c.loop-e.invariant.within, c.requires.most)
 
 pub way-to-requires : goal.way-to-requires
 way-to-requires c =
-    record { clean = ready-clean c.args.ring.now c.args.n (head_of c.args.r) c.requires; i_in_bounds = seen c.before.before.before _ c.loop-e-test.true }
+    let size : length (vertices c.args.ring.now) ≡ c.args.n = length-vertices c.args.ring.now c.args.n c.requires.even in
+    record { clean = ready-clean c.args.ring.now c.args.n (head_of c.args.r) c.requires; i_in_bounds = omega (arith, c.loop-e-test.true) }
 
 pub along-met-requires : goal.along-met-requires
 along-met-requires c = (c.loop-e.invariant.way.short, c.way-to.ensures.short)
@@ -55,7 +46,8 @@ loop-e-preserved c =
 
 pub way-requires : goal.way-requires
 way-requires c =
-    record { clean = ready-clean c.args.ring.now c.args.n (head_of c.args.r) c.requires; i_in_bounds = seen c.before.before.before 0 (omega (arith, c.requires.least)) }
+    let size : length (vertices c.args.ring.now) ≡ c.args.n = length-vertices c.args.ring.now c.args.n c.requires.even in
+    record { clean = ready-clean c.args.ring.now c.args.n (head_of c.args.r) c.requires; i_in_bounds = omega (arith, c.requires.least) }
 
 pub along-requires : goal.along-requires
 along-requires c = (c.loop-e.invariant.way.short, c.way.ensures.short)

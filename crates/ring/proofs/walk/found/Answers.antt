@@ -1,7 +1,6 @@
 -- `ring::walk::found` tells what was met, or else the count. Assumes nothing.
 use mathlib.Core.Path.{sym, ap, ◌∙◌}
 use mathlib.Core.Bool.{Bool}
-use borrow.Author.Rules.{rules}
 use borrow.Author.Tests.{lt-ltb, le-ltb}
 use Rattle.ring.specs.Choices.{pick}
 use Rattle.ring.specs.Locate.{vertex, edge, on}

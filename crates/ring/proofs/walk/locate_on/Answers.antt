@@ -1,9 +1,8 @@
 -- `ring::walk::locate_on` counts by blocks, and looks for places only where some determinant was 0. Assumes nothing.
 use Prim.Native.Nat.{◌*◌, ◌-◌}
 use native.Mathlib.Omega.{arith}
-use mathlib.Core.Path.{◌≡◌, sym, ap, subst, ◌∙◌}
+use mathlib.Core.Path.{◌≡◌, sym, subst, ◌∙◌}
 use lib.ListN.{length, take}
-use borrow.Author.Rules.{rules}
 use Rattle.ring.specs.Grid.{vertices}
 use Rattle.ring.specs.Walk.{head_of, Ready, met_at}
 use Rattle.ring.proofs.Vertices.{length-vertices}

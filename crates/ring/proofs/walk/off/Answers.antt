@@ -4,7 +4,6 @@ use lib.IntN.{ℤ}
 use mir.Syntax.{w32}
 use mir.Val.{SFits, to_z, of_z}
 use mir.Facts.{to_z-of_z}
-use borrow.Author.Rules.{rules}
 use Rattle.exact.proofs.Bounds.{within-fits, narrow-fits}
 use Rattle.ring.specs.Locate.{off}
 use Rattle.ring.specs.Turns.{oddly}

@@ -1,6 +1,5 @@
 -- `ring::places::Span::along` takes an edge in only if it holds r. Assumes nothing.
 use mathlib.Core.Path.{sym, ◌∙◌}
-use borrow.Author.Rules.{rules}
 use Rattle.ring.proofs.Pick.{pick_true, pick-false}
 use Rattle.ring.proofs.places.Span.along.Goals as goal
 
