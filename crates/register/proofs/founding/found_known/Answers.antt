@@ -7,7 +7,6 @@ use mathlib.Core.List.{List}
 use lib.Dec.{eqb, ltb}
 use lib.IntN.{ℤ}
 use lib.ListN.{length}
-use borrow.Author.Rules.{rules}
 use borrow.Author.Tests.{eqb-true, eqb-false, ltb-false, not-false}
 use Rattle.ring.specs.Grid.{vertices, some_beyond}
 use Rattle.ring.proofs.Pick.{neither_left, neither_right}
@@ -30,7 +29,6 @@ use Rattle.register.proofs.Founds.{founded-sound, founded-meaning}
 use Rattle.register.proofs.founding.found_known.Goals as goal
 
 -- what an acceptance tells
-
 record Free (l : Lists) (xs : List ℤ) (n : ℕ) : Type 0 where
   good : formed l ≡ true
   none : outline_size l.runs ≡ 0
@@ -59,8 +57,6 @@ free l xs e =
       grid = fourth.0;
     }
 
--- the two outcomes
-
 wrote-all : (xs : List ℤ) (n : ℕ) (l after : Lists) → Free l xs n → Long after → verdict (found_tests (formed l) (means l) xs) ≡ accept → Wrote (vertices xs) l after → FoundBy Done xs l after
 unfolding founded
 wrote-all xs n l after f long e w =
@@ -84,27 +80,25 @@ left-all q xs l e = record { said = sym e; left = refl }
 
 pub write-requires : goal.write-requires
 write-requires c =
-    let told_free : let s = start c.before.before.before.before.before in verdict (found_tests (formed (lists s)) (means (lists s)) s.args.ring.now) ≡ accept = sym c.judged.ensures ∙ ap verdict_of c.in-Accepted.is in
-    let judged-free : let s = start c.before.before.before.before.before in Free (lists s) s.args.ring.now (length s.args.ring.now / 2) = free (lists (start c.before.before.before.before.before)) (start c.before.before.before.before.before).args.ring.now told_free in
-    let f = judged-free in
-    let l = lists (start c.before.before.before.before.before) in
+    let a = c.args in
+    let l : Lists = lent a.ox.now a.oy.now a.sx.now a.sy.now a.runs.now in
+    let f = free l a.ring.now (sym c.judged.ensures ∙ ap verdict_of c.in-Accepted.is) in
     let own = outline-lengths l f.good in
     let all = store-lengths l f.good in
     record { ox_len = (own.0, own.1, all.0, all.1, runs-length l f.good); ring_len = (f.even, f.most) }
 
 pub returns-in-Accepted : goal.returns-in-Accepted
 returns-in-Accepted c =
-    let told_free : let s = start c.before.before.before.before.before.before.before.before.before.before.before.before in verdict (found_tests (formed (lists s)) (means (lists s)) s.args.ring.now) ≡ accept = sym c.judged.ensures ∙ ap verdict_of c.in-Accepted.is in
-    let judged-free : let s = start c.before.before.before.before.before.before.before.before.before.before.before.before in Free (lists s) s.args.ring.now (length s.args.ring.now / 2) = free (lists (start c.before.before.before.before.before.before.before.before.before.before.before.before)) (start c.before.before.before.before.before.before.before.before.before.before.before.before).args.ring.now told_free in
-    let s = start c.before.before.before.before.before.before.before.before.before.before.before.before in
-    let l = lists s in
-    let f = judged-free in
+    let a = c.args in
+    let l : Lists = lent a.ox.now a.oy.now a.sx.now a.sy.now a.runs.now in
+    let told : verdict (found_tests (formed l) (means l) a.ring.now) ≡ accept = sym c.judged.ensures ∙ ap verdict_of c.in-Accepted.is in
+    let f = free l a.ring.now told in
     let own = outline-lengths l f.good in
     let all = store-lengths l f.good in
     let same = c.write.auto in
-    wrote-all s.args.ring.now _ l _ f (record { outline = (same.0 ∙ own.0, same.1.0 ∙ own.1); store = (same.1.1.0 ∙ all.0, same.1.1.1.0 ∙ all.1) }) told_free c.write.ensures
+    wrote-all a.ring.now _ l _ f (record { outline = (same.ox ∙ own.0, same.oy ∙ own.1); store = (same.sx ∙ all.0, same.sy ∙ all.1) }) told c.write.ensures
 
 pub returns-in-Refused : goal.returns-in-Refused
 returns-in-Refused c =
-    let s = c.before.before.before.before.before in
-    left-all _ s.args.ring.now (lists s) (sym c.judged.ensures ∙ ap verdict_of c.in-Refused.is)
+    let a = c.args in
+    left-all _ a.ring.now (lent a.ox.now a.oy.now a.sx.now a.sy.now a.runs.now) (sym c.judged.ensures ∙ ap verdict_of c.in-Refused.is)

@@ -6,7 +6,6 @@ use Rattle.ring.proofs.Vertices.{length-vertices}
 use Rattle.districts.specs.Lent.{written}
 use Rattle.room.proofs.Written.{run-all}
 use Rattle.register.specs.Calls.{placed}
-use borrow.Author.Rules.{rules}
 use Rattle.register.proofs.founding.write.Goals as goal
 
 pub returns : goal.returns

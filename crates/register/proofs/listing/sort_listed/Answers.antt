@@ -1,12 +1,10 @@
 -- `register::listing::sort_listed` takes one listed number after the other. The invariant: what is seen of the numbers below d (`Sorts`), and `left` has the bits of the others. Assumes nothing.
-use Prim.Native.Nat.{ℕ, ◌+◌, ◌-◌, ◌/◌, ◌^◌, ◌<◌}
+use Prim.Native.Nat.{ℕ, ◌+◌, ◌<◌}
 use native.Mathlib.Omega.{arith}
 use native.Mathlib.Nat.{div-one}
 use mathlib.Core.Path.{◌≡◌, refl, sym, ap, subst, ◌∙◌}
 use mathlib.Core.Bool.{true, false}
-use mathlib.Core.Logic.{inl, inr}
 use lib.Count.{count_trailing_zeros, trailing_le}
-use borrow.Author.Rules.{rules}
 use Rattle.ring.specs.Locate.{Place}
 use Rattle.index.specs.Axis.{bit}
 use Rattle.index.proofs.Bits.{none_left, next_low, none_between, next-left}
@@ -15,6 +13,7 @@ use Rattle.register.proofs.Listed.{bounding, unlisted-quiet}
 use Rattle.register.proofs.Runs.{lies, Quiet}
 use Rattle.register.proofs.Sorts.{Sorts, sorts-none, sorts-more, sorts-same, sorts-border, sorts-rest, sorts-all}
 use Rattle.register.proofs.listing.sort_listed.Goals as goal
+use Rattle.register.proofs.listing.sort_listed.Goals.{in-Inside, in-Outside, in-Missed}
 
 pub candidates-left-requires : goal.candidates-left-requires
 candidates-left-requires c = let i = c.requires.indexed in (i.across.masks-room, i.up.masks-room, i.across.axis, i.up.axis)
@@ -22,16 +21,8 @@ candidates-left-requires c = let i = c.requires.indexed in (i.across.masks-room,
 pub loop-left-init : goal.loop-left-init
 loop-left-init c = (sorts-none _ _ refl refl, sym (div-one c.candidates-left.result))
 
--- where r lies to a number
-
--- one that is not listed
-
 pub overflow_cast-skipped : goal.overflow_cast-skipped
 overflow_cast-skipped c = omega (arith, trailing_le 64 c.loop-left.left)
-
--- the number that is taken
-
--- what is seen of the numbers below it
 
 pub overflow_add-d : goal.overflow_add-d
 overflow_add-d c =
@@ -100,9 +91,9 @@ loop-left-preserved c =
     let s = c.loop-left.seen in
     let bits = next-left c.candidates-left.result c.loop-left.d c.loop-left.left c.candidates-left.type_inv c.loop-left.invariant.1 c.loop-left.invariant.0.le c.loop-left-test.true in
     elim c.match-lies_near.branch [
-      | inl inside ↦ (sorts-more at true d s c.match-lies_near.seen next reached (subst (λ s. Stands s (at d)) inside.1.given.1 c.lies_near.ensures) (ap (λ s. s.many) inside.3 ∙ inside.2.ensures.0) (ap (λ s. s.lowest) inside.3 ∙ inside.2.ensures.1), bits)
-      | inr (inl outside) ↦ (sorts-same at d s c.match-lies_near.seen next reached (subst (λ s. Stands s (at d)) outside.1.given.1 c.lies_near.ensures) outside.2, bits)
-      | inr (inr missed) ↦ (sorts-same at d s c.match-lies_near.seen next reached (subst (λ s. Stands s (at d)) missed.1.given.1 c.lies_near.ensures) missed.2, bits)
+      | in-Inside w ↦ (sorts-more at true d s c.match-lies_near.seen next reached (subst (λ s. Stands s (at d)) w.in-Inside.is c.lies_near.ensures) (ap (λ s. s.many) w.seen-is ∙ w.with-seen.ensures.0) (ap (λ s. s.lowest) w.seen-is ∙ w.with-seen.ensures.1), bits)
+      | in-Outside w ↦ (sorts-same at d s c.match-lies_near.seen next reached (subst (λ s. Stands s (at d)) w.in-Outside.is c.lies_near.ensures) w.seen-is, bits)
+      | in-Missed w ↦ (sorts-same at d s c.match-lies_near.seen next reached (subst (λ s. Stands s (at d)) w.in-Missed.is c.lies_near.ensures) w.seen-is, bits)
     ]
 
 pub returns : goal.returns

@@ -1,6 +1,5 @@
 -- `register::placing::refused` refuses by 1, by 2, and then as it was told. Assumes nothing.
 use mathlib.Core.Path.{sym, ap, ◌∙◌}
-use borrow.Author.Rules.{rules}
 use Rattle.refusals.specs.Numbers.{number_of}
 use Rattle.refusals.specs.Verdicts.{verdict_of}
 use Rattle.districts.specs.Answers.{refused}

@@ -2,7 +2,6 @@
 use mathlib.Core.Path.{◌≡◌, sym, ap, ◌∙◌}
 use mathlib.Core.Bool.{true}
 use mir.Facts.{to_z-of_z}
-use borrow.Author.Rules.{rules}
 use Rattle.refusals.specs.Verdicts.{accept, verdict, verdict_of}
 use Rattle.ring.specs.Grid.{point}
 use Rattle.districts.specs.Answers.{report}
@@ -12,8 +11,6 @@ use Rattle.districts.proofs.Begun.{begun-formed}
 use Rattle.register.specs.Sorting.{point_tests, given}
 use Rattle.register.proofs.Given.{answer-refused, answer-given, sorted-is}
 use Rattle.register.proofs.sorting.assign.Goals as goal
-
--- neither 1 nor 2
 
 pub place-requires : goal.place-requires
 place-requires c =

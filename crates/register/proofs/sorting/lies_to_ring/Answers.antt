@@ -5,7 +5,6 @@ use Rattle.ring.specs.Locate.{located_on}
 use Rattle.columns.specs.Missing.{Misses}
 use Rattle.register.specs.Sorting.{rests, winds}
 use Rattle.register.specs.Standing.{Stands}
-use borrow.Author.Rules.{rules}
 use Rattle.register.proofs.sorting.lies_to_ring.Goals as goal
 
 pub returns-in-By : goal.returns-in-By

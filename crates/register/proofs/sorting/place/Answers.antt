@@ -1,6 +1,5 @@
 -- `register::sorting::place` refuses a point beyond the grid, and otherwise sorts it. Assumes nothing.
 use mathlib.Core.Path.{sym, ap, ◌∙◌}
-use borrow.Author.Rules.{rules}
 use Rattle.districts.specs.Answers.{report}
 use Rattle.register.proofs.Given.{point-refused, point-taken, point-grid}
 use Rattle.register.proofs.sorting.place.Goals as goal

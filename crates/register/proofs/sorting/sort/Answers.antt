@@ -1,18 +1,16 @@
 -- `register::sorting::sort` sees one number after the other. The invariant: what is seen of the numbers below d (`Sorts`), and `past` is what they have together. Assumes nothing.
-use Prim.Native.Nat.{◌+◌, ◌-◌, ◌≤◌, ◌<◌}
+use Prim.Native.Nat.{◌+◌, ◌≤◌, ◌<◌}
 use native.Mathlib.Nat.{le_refl}
 use native.Mathlib.Omega.{arith}
-use mathlib.Core.Path.{◌≡◌, refl, ap, subst, ◌∙◌}
+use mathlib.Core.Path.{refl, ap, subst, ◌∙◌}
 use mathlib.Core.Bool.{true}
-use mathlib.Core.Logic.{inl, inr}
-use borrow.Author.Rules.{rules}
-use Rattle.districts.specs.Counts.{sum_to}
 use Rattle.districts.specs.Lists.{size}
 use Rattle.districts.proofs.Counting.{sum-none, sum_more, term-past, term-left, rest-none}
 use Rattle.register.specs.Standing.{Stands}
 use Rattle.register.proofs.Runs.{lies, lies-unused}
-use Rattle.register.proofs.Sorts.{Sorts, sorts-none, sorts-more, sorts-same, sorts-border, sorts-rest, sorts-all}
+use Rattle.register.proofs.Sorts.{sorts-none, sorts-more, sorts-same, sorts-border, sorts-rest, sorts-all}
 use Rattle.register.proofs.sorting.sort.Goals as goal
+use Rattle.register.proofs.sorting.sort.Goals.{in-Inside, in-Outside, in-Missed}
 
 pub loop-past-init : goal.loop-past-init
 loop-past-init c = (sorts-none _ _ refl refl, sum-none _)
@@ -43,8 +41,6 @@ size-past-requires c =
     let left : c.loop-past.d < 64 = let a = c.args in
     term-left (size a.runs.now) 64 c.loop-past.d c.loop-past.past c.loop-past.invariant.1 c.loop-past.invariant.0.le (omega (arith, c.loop-past-test.true, c.total-all.ensures)) in
     record { runs_len = c.requires.good_runs.runs-length; d_bound = left }
-
--- what the numbers below d + 1 have is in the total
 
 pub overflow_add-past : goal.overflow_add-past
 overflow_add-past c =
@@ -78,9 +74,9 @@ loop-past-preserved c =
     let low = left in
     let sums = sum_more (size a.runs.now) d _ _ c.loop-past.invariant.1 c.size-past.ensures.0 in
     elim c.match-lies.branch [
-      | inl inside ↦ (sorts-more place true d s c.match-lies.seen low c.loop-past.invariant.0 (subst (λ s. Stands s (place d)) inside.1.given.1 c.lies.ensures) (ap (λ s. s.many) inside.3 ∙ inside.2.ensures.0) (ap (λ s. s.lowest) inside.3 ∙ inside.2.ensures.1), sums)
-      | inr (inl outside) ↦ (sorts-same place d s c.match-lies.seen low c.loop-past.invariant.0 (subst (λ s. Stands s (place d)) outside.1.given.1 c.lies.ensures) outside.2, sums)
-      | inr (inr missed) ↦ (sorts-same place d s c.match-lies.seen low c.loop-past.invariant.0 (subst (λ s. Stands s (place d)) missed.1.given.1 c.lies.ensures) missed.3, sums)
+      | in-Inside w ↦ (sorts-more place true d s c.match-lies.seen low c.loop-past.invariant.0 (subst (λ s. Stands s (place d)) w.in-Inside.is c.lies.ensures) (ap (λ s. s.many) w.seen-is ∙ w.with-seen.ensures.0) (ap (λ s. s.lowest) w.seen-is ∙ w.with-seen.ensures.1), sums)
+      | in-Outside w ↦ (sorts-same place d s c.match-lies.seen low c.loop-past.invariant.0 (subst (λ s. Stands s (place d)) w.in-Outside.is c.lies.ensures) w.seen-is, sums)
+      | in-Missed w ↦ (sorts-same place d s c.match-lies.seen low c.loop-past.invariant.0 (subst (λ s. Stands s (place d)) w.in-Missed.is c.lies.ensures) w.seen-is, sums)
     ]
 
 pub returns : goal.returns

@@ -1,17 +1,10 @@
 -- `register::sorting::sort` sees one number after the other. The invariant: what is seen of the numbers below d (`Sorts`), and `past` is what they have together. Assumes nothing.
-use Prim.Native.Nat.{◌+◌, ◌-◌, ◌≤◌, ◌<◌}
-use native.Mathlib.Nat.{le_refl}
-use native.Mathlib.Omega.{arith}
-use mathlib.Core.Path.{◌≡◌, refl, ap, subst, ◌∙◌}
-use mathlib.Core.Bool.{true}
-use mathlib.Core.Logic.{inl, inr}
-use borrow.Author.Rules.{rules}
+use Prim.Native.Nat.{◌-◌}
+use mathlib.Core.Path.{◌≡◌}
 use Rattle.districts.specs.Counts.{sum_to}
 use Rattle.districts.specs.Lists.{size}
-use Rattle.districts.proofs.Counting.{sum-none, sum_more, term-past, term-left, rest-none}
-use Rattle.register.specs.Standing.{Stands}
-use Rattle.register.proofs.Runs.{lies, lies-unused}
-use Rattle.register.proofs.Sorts.{Sorts, sorts-none, sorts-more, sorts-same, sorts-border, sorts-rest, sorts-all}
+use Rattle.register.proofs.Runs.{lies}
+use Rattle.register.proofs.Sorts.{Sorts}
 use Rattle.register.proofs.sorting.sort.Given as goal
 
 abbrev pub invariant-loop-past : goal.invariant-loop-past

@@ -1,6 +1,5 @@
 -- `register::standing::apart` goes by whether the winding number is 0. Assumes nothing.
 use mathlib.Core.Path.{refl, sym, ◌∙◌}
-use borrow.Author.Rules.{rules}
 use Rattle.register.proofs.standing.apart.Goals as goal
 
 pub returns-then-turned : goal.returns-then-turned

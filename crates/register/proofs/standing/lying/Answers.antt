@@ -1,6 +1,5 @@
 -- `register::standing::lying` takes over where on the ring a point is; off it, the winding number decides. Assumes nothing.
 use mathlib.Core.Path.{sym, ap, subst}
-use borrow.Author.Rules.{rules}
 use Rattle.ring.specs.Locate.{place_of}
 use Rattle.register.specs.Standing.{Stands}
 use Rattle.register.proofs.standing.lying.Goals as goal

@@ -1,7 +1,6 @@
 -- `register::standing::Seen::with` counts one more and keeps the lowest. Assumes nothing.
 use mathlib.Core.Path.{refl, sym}
 use borrow.Author.Tests.{le-leb, lt-leb}
-use borrow.Author.Rules.{rules}
 use Rattle.ring.proofs.Pick.{pick_true, pick-false}
 use Rattle.register.proofs.standing.Seen.with.Goals as goal
 
