@@ -1,10 +1,11 @@
 -- `judging::matching::judge_border` asks in the rules' order. Assumes nothing.
-use Prim.Native.Nat.{◌+◌, ◌-◌, ◌<◌}
+use Prim.Native.Nat.{ℕ, ◌+◌, ◌-◌, ◌<◌}
 use native.Mathlib.Omega.{arith}
 use mathlib.Core.Path.{◌≡◌, sym, ap, ◌∙◌}
-use mathlib.Core.Bool.{not, ◌||◌}
+use mathlib.Core.Bool.{not, ◌||◌, true, false}
 use mathlib.Core.List.{List, ◌∷◌}
 use lib.Dec.{eqb, leb, ltb}
+use lib.IntN.{ℤ}
 use lib.ListN.{length}
 use borrow.Author.Tests.{leb-false, lt-ltb, le-ltb, not-true, not-false}
 use Rattle.ring.specs.Columns.{points}
@@ -15,7 +16,6 @@ use Rattle.refusals.specs.Verdicts.{Test, ◌if◌, Verdict, verdict}
 use Rattle.judging.specs.Merging.{matches, merged}
 use Rattle.refusals.proofs.Verdicts.{refused-by, left-to, passed-all}
 use Rattle.judging.proofs.Matched.{merged-length}
-use borrow.Author.Rules.{rules}
 use Rattle.judging.proofs.matching.judge_border.Goals as goal
 
 -- ---- the tests as the table has them, of rings of n and m vertices
@@ -74,11 +74,14 @@ overflow_sub-m c =
 
 -- refusals 8 and 10 are passed
 
-passed : (c : goal.Else-not-matches) (r : Verdict) (ts : List Test) → let s = ?! in r ≡ verdict ts
-    → r ≡ verdict ((8 if leb (length (points s.args.xs.now s.args.ys.now)) s.args.a || leb (length (points s.args.us.now s.args.vs.now)) s.args.b) ∷ (10 if (eqb s.args.k 0 || (leb (length (points s.args.xs.now s.args.ys.now)) s.args.k || leb (length (points s.args.us.now s.args.vs.now)) s.args.k)) || not (matches (points s.args.xs.now s.args.ys.now) s.args.a (points s.args.us.now s.args.vs.now) s.args.b s.args.k)) ∷ ts)
-passed c r ts e =
-    left-to 8 _ _ (sym indices ∙ c.if-n-a.false)
-    (left-to 10 _ _ (λ t. (sym edges ∙ c.if-k-n.false) t || not ((sym c.matches.ensures ∙ not-false _ (ap not c.if-not-matches.false)) t)) e)
+passed : (xs ys us vs : List ℤ) (a b k : ℕ) → length xs ≡ length ys → length us ≡ length vs → (leb (length xs) a || leb (length us) b) ≡ false → (eqb k 0 || (leb (length xs) k || leb (length us) k)) ≡ false
+    → matches (points xs ys) a (points us vs) b k ≡ true → (r : Verdict) (ts : List Test) → r ≡ verdict ts
+    → r ≡ verdict ((8 if leb (length (points xs ys)) a || leb (length (points us vs)) b) ∷ (10 if (eqb k 0 || (leb (length (points xs ys)) k || leb (length (points us vs)) k)) || not (matches (points xs ys) a (points us vs) b k)) ∷ ts)
+passed xs ys us vs a b k e f indices edges all r ts h =
+    let one = length-points xs ys e in
+    let two = length-points us vs f in
+    left-to 8 _ _ ((λ t. leb (one t) a || leb (two t) b) ∙ indices)
+    (left-to 10 _ _ (λ t. ((λ s. eqb k 0 || (leb (one s) k || leb (two s) k)) ∙ edges) t || not (all t)) h)
 
 pub returns-then-n-k-lt-FEWEST_VERTICES : goal.returns-then-n-k-lt-FEWEST_VERTICES
 returns-then-n-k-lt-FEWEST_VERTICES c =
@@ -91,7 +94,7 @@ returns-then-n-k-lt-FEWEST_VERTICES c =
     ) in
     let few : let a = c.args in ltb (length a.xs.now - a.k + (length a.us.now - a.k)) 3 ≡ ltb (length (merged (points a.xs.now a.ys.now) a.a (points a.us.now a.vs.now) a.b a.k)) 3 = let a = c.args in
     ap (λ n. ltb n 3) (sym (merged-length (points a.xs.now a.ys.now) (points a.us.now a.vs.now) a.a a.b (length a.xs.now) (length a.us.now) a.k (long).0 (long).1 (inside).1.0 (inside).1.1)) in
-    passed c.before _ _ (refused-by 9 _ _ (sym few ∙ lt-ltb _ 3 c.if-n-k-lt-FEWEST_VERTICES.true))
+    passed c.args.xs.now c.args.ys.now c.args.us.now c.args.vs.now c.args.a c.args.b c.args.k c.requires.xs_len.0 c.requires.xs_len.1 c.if-n-a.false c.if-k-n.false (sym c.matches.ensures ∙ not-false _ (ap not c.if-not-matches.false)) _ _ (refused-by 9 _ _ (sym few ∙ lt-ltb _ 3 c.if-n-k-lt-FEWEST_VERTICES.true))
 
 pub returns : goal.returns
 returns c =
@@ -104,4 +107,4 @@ returns c =
     ) in
     let few : let a = c.args in ltb (length a.xs.now - a.k + (length a.us.now - a.k)) 3 ≡ ltb (length (merged (points a.xs.now a.ys.now) a.a (points a.us.now a.vs.now) a.b a.k)) 3 = let a = c.args in
     ap (λ n. ltb n 3) (sym (merged-length (points a.xs.now a.ys.now) (points a.us.now a.vs.now) a.a a.b (length a.xs.now) (length a.us.now) a.k (long).0 (long).1 (inside).1.0 (inside).1.1)) in
-    passed c.before _ _ (left-to 9 _ _ (sym few ∙ le-ltb _ 3 c.if-n-k-lt-FEWEST_VERTICES.false) (sym passed-all))
+    passed c.args.xs.now c.args.ys.now c.args.us.now c.args.vs.now c.args.a c.args.b c.args.k c.requires.xs_len.0 c.requires.xs_len.1 c.if-n-a.false c.if-k-n.false (sym c.matches.ensures ∙ not-false _ (ap not c.if-not-matches.false)) _ _ (left-to 9 _ _ (sym few ∙ le-ltb _ 3 c.if-n-k-lt-FEWEST_VERTICES.false) (sym passed-all))

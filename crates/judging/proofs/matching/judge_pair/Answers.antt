@@ -17,7 +17,6 @@ use Rattle.districts.proofs.Lent.{held-in-use, cut, cut-points, part_length}
 use Rattle.refusals.specs.Verdicts.{verdict}
 use Rattle.refusals.proofs.Verdicts.{refused-by, left-to}
 use Rattle.judging.specs.Judging.{border_tests}
-use borrow.Author.Rules.{rules}
 use Rattle.judging.proofs.matching.judge_pair.Goals as goal
 
 -- whether the numbers are in use is told by their sizes
@@ -96,8 +95,8 @@ judge_border-requires c =
     let n = c.size.result in
     let g = c.first_place-after.result in
     let m = c.size-2.result in
-    let first = cut-long sx f n (omega (arith, fits, c.pre.x-length)) in
-    let second = cut-long sx g m (omega (arith, fits, c.pre.x-length)) in record { xs_len = (first ∙ sym (cut-long sy f n (omega (arith, fits, c.pre.y-length))), second ∙ sym (cut-long sy g m (omega (arith, fits, c.pre.y-length)))); xs_len_bound = (omega (arith, first, fits), omega (arith, second, fits)) }
+    let first = cut-long sx f n (omega (arith, fits, c.requires.x-length)) in
+    let second = cut-long sx g m (omega (arith, fits, c.requires.x-length)) in record { xs_len = (first ∙ sym (cut-long sy f n (omega (arith, fits, c.requires.y-length))), second ∙ sym (cut-long sy g m (omega (arith, fits, c.requires.y-length)))); xs_len_bound = (omega (arith, first, fits), omega (arith, second, fits)) }
 
 pub returns : goal.returns
 returns c =

@@ -1,17 +1,12 @@
 -- `judging::matching::matches` takes one point of the border after the other. The invariant: the points before t meet. Assumes nothing.
-use Prim.Native.Nat.{ℕ, suc, ◌+◌, ◌-◌, ◌≤◌, ◌<◌}
-use native.Mathlib.Decide.{dec_lt}
-use native.Mathlib.Omega.{arith}
-use mathlib.Core.Path.{◌≡◌, sym, ap, ◌∙◌}
+use Prim.Native.Nat.{ℕ, suc, ◌-◌, ◌≤◌, ◌<◌}
+use mathlib.Core.Path.{◌≡◌}
 use mathlib.Core.Bool.{true}
 use mathlib.Core.List.{List}
 use lib.ListN.{length}
-use borrow.Author.Rules.{rules}
-use borrow.Author.Tests.{not-true, not-false}
 use Rattle.ring.specs.declared.Point.{Point}
 use Rattle.ring.specs.Columns.{points}
-use Rattle.ring.proofs.Columns.{length-points}
-use Rattle.judging.proofs.Matched.{meets_at, match-all, match-fails}
+use Rattle.judging.proofs.Matched.{meets_at}
 use Rattle.judging.proofs.matching.matches.Given as goal
 
 pub record Met (P : List Point) (a : ℕ) (Q : List Point) (b m k t : ℕ) : Type 0 where

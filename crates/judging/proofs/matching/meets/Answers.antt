@@ -7,7 +7,6 @@ use Rattle.ring.specs.Rings.{at}
 use Rattle.ring.specs.Segment.{same}
 use Rattle.ring.proofs.Vertices.{at_rest}
 use Rattle.ring.proofs.Columns.{length-points}
-use borrow.Author.Rules.{rules}
 use Rattle.judging.proofs.matching.meets.Goals as goal
 
 pub returns : goal.returns

@@ -4,7 +4,6 @@ use mathlib.Core.Path.{sym, ◌∙◌}
 use mathlib.Core.Bool.{◌||◌}
 use lib.Dec.{eqb, leb}
 use lib.ListN.{length}
-use borrow.Author.Rules.{rules}
 use borrow.Author.Tests.{eq-eqb, ne_eqb, leb-false}
 use Rattle.ring.proofs.Pick.{neither_left, neither_right}
 use Rattle.refusals.proofs.Verdicts.{refused-by, left-to}

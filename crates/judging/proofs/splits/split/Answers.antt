@@ -1,6 +1,5 @@
 -- `judging::splits::split` asks in the rules' order. Assumes nothing.
 use mathlib.Core.Path.{◌≡◌, sym, ap, ◌∙◌}
-use borrow.Author.Rules.{rules}
 use Rattle.refusals.specs.Verdicts.{verdict, verdict_of}
 use Rattle.districts.specs.Lent.{Lists, lent, outline_of, store_of, formed, means, beginning}
 use Rattle.room.proofs.Forms.{sound}
