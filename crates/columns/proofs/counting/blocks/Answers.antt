@@ -1,10 +1,10 @@
 -- `columns::counting::blocks`: the closing edge, after some blocks the first i edges, and then the edges behind them. The measure is the number of edges left. Assumes nothing.
-use Prim.Native.Nat.{ℕ, ◌+◌, ◌-◌, ◌≤◌}
+use Prim.Native.Nat.{ℕ, ◌+◌, ◌-◌}
 use native.Mathlib.Omega.{arith}
 use native.Mathlib.Nat.{zero-add}
 use mathlib.Core.Path.{◌≡◌, sym, subst}
+use mathlib.Core.List.{List}
 use lib.ListN.{length}
-use borrow.Author.Rules.{rules}
 use Rattle.ring.specs.declared.Point.{Point}
 use Rattle.ring.specs.declared.counting.Count.{Count}
 use Rattle.ring.specs.Columns.{points}
@@ -16,8 +16,6 @@ use Rattle.columns.proofs.counting.blocks.Goals as goal
 
 pub overflow_sub-last : goal.overflow_sub-last
 overflow_sub-last c = omega (arith, c.requires.least)
-
--- the columns and the wide point may be handed on
 
 pub closing-count-requires : goal.closing-count-requires
 closing-count-requires c =
@@ -43,15 +41,11 @@ pub loop-i-smaller : goal.loop-i-smaller
 loop-i-smaller c = omega (arith, c.loop-i-test.true)
 
 -- the first i edges, and then k more
-
-further : (c : goal.At-loop-i) (k : ℕ) (v : Count) → let start = ?! in let P = points start.args.xs.now start.args.ys.now in
-    Counts P start.args.r c.loop-i.i k c.loop-i.count v → Counts P start.args.r 0 (c.loop-i.i + k) c.closing-count.result v
-further c k v counts =
-    let P = points c.args.xs.now c.args.ys.now in
-    counts-on P c.args.r 0 c.loop-i.i k c.closing-count.result c.loop-i.count v c.loop-i.invariant.1 (subst (λ m. Counts P c.args.r m k c.loop-i.count v) (sym (zero-add c.loop-i.i)) counts)
+further : (P : List Point) (R : Point) (i k : ℕ) (first count v : Count) → Counts P R 0 i first count → Counts P R i k count v → Counts P R 0 (i + k) first v
+further P R i k first count v before counts = counts-on P R 0 i k first count v before (subst (λ (m : ℕ). Counts P R m k count v) (sym (zero-add i)) counts)
 
 pub loop-i-preserved : goal.loop-i-preserved
-loop-i-preserved c = (c.loop-i-test.true, further c.before.before 16 c.block-count.result c.block-count.ensures)
+loop-i-preserved c = (c.loop-i-test.true, further _ _ _ 16 _ _ _ c.loop-i.invariant.1 c.block-count.ensures)
 
 pub overflow_sub-last-2 : goal.overflow_sub-last-2
 overflow_sub-last-2 c = c.loop-i.invariant.0
@@ -59,7 +53,7 @@ overflow_sub-last-2 c = c.loop-i.invariant.0
 pub stretch-requires : goal.stretch-requires
 stretch-requires c =
     let ready : Ready c.args.xs.now c.args.ys.now (head_of c.wide-w.result) = subst (Ready c.args.xs.now c.args.ys.now) (sym c.wide-w.ensures) c.requires in
-    record { clean = (ready).clean; k_in_bounds = omega (arith, c.loop-i.invariant.0, c.requires.least); k_bound = omega (arith, c.loop-i.invariant.0, c.loop-i.invariant.1.few, c.closing-count.ensures.few, c.requires.clean.most) }
+    record { clean = ready.clean; k_in_bounds = omega (arith, c.loop-i.invariant.0, c.requires.least); k_bound = omega (arith, c.loop-i.invariant.0, c.loop-i.invariant.1.few, c.closing-count.ensures.few, c.requires.clean.most) }
 
 pub returns : goal.returns
 returns c =
@@ -67,7 +61,7 @@ returns c =
     let P = points c.args.xs.now c.args.ys.now in
     let n = length c.args.xs.now in
     let left = n - 1 - c.loop-i.i in
-    let rest = further c.before.before left c.stretch.result (subst (λ (R : Point). Counts P R c.loop-i.i left c.loop-i.count c.stretch.result) c.wide-w.ensures c.stretch.ensures) in
+    let rest = further P c.args.r c.loop-i.i left _ _ _ c.loop-i.invariant.1 (subst (λ (R : Point). Counts P R c.loop-i.i left c.loop-i.count c.stretch.result) c.wide-w.ensures c.stretch.ensures) in
     counts_all P c.args.r n c.closing-count.result c.stretch.result size (omega (arith, c.requires.least)) c.requires.clean.most
     (subst (λ (R : Point). Counts P R (n - 1) 1 none c.closing-count.result) c.wide-w.ensures c.closing-count.ensures)
     (subst (λ k. Counts P c.args.r 0 k c.closing-count.result c.stretch.result) (omega (arith, c.loop-i.invariant.0)) rest)

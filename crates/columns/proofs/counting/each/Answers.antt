@@ -1,7 +1,6 @@
 -- `columns::counting::each` counts the closing edge, and then the others. Assumes nothing.
 use native.Mathlib.Omega.{arith}
 use lib.ListN.{length}
-use borrow.Author.Rules.{rules}
 use Rattle.ring.specs.Columns.{points}
 use Rattle.ring.specs.Walk.{head_of}
 use Rattle.ring.proofs.Columns.{length-points}

@@ -3,7 +3,6 @@ use mathlib.Core.Path.{subst}
 use Rattle.ring.proofs.OnGrid.{held}
 use Rattle.columns.specs.Walk.{Beside}
 use Rattle.columns.proofs.Sides.{by_row, by-column}
-use borrow.Author.Rules.{rules}
 use Rattle.columns.proofs.counting.missed.Goals as goal
 
 pub returns-then-beside : goal.returns-then-beside

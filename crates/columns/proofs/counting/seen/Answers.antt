@@ -1,6 +1,5 @@
 -- `columns::counting::seen` is the way to a vertex, with its mark. Assumes nothing.
 use mathlib.Core.Path.{sym, subst}
-use borrow.Author.Rules.{rules}
 use Rattle.ring.specs.Columns.{points}
 use Rattle.ring.specs.Rings.{at}
 use Rattle.ring.specs.Walk.{head_of, Way}

@@ -1,5 +1,5 @@
 -- `columns::counting::stretch`: after j edges the count is that of j edges, and the end is vertex i + j. The measure is the number of edges left. Assumes nothing.
-use Prim.Native.Nat.{◌+◌, ◌-◌, ◌≤◌}
+use Prim.Native.Nat.{◌+◌}
 use native.Mathlib.Nat.{add_assoc, add-zero}
 use native.Mathlib.Omega.{arith}
 use mathlib.Core.Path.{sym, subst}

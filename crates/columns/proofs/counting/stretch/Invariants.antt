@@ -1,12 +1,8 @@
 -- `columns::counting::stretch`: after j edges the count is that of j edges, and the end is vertex i + j. The measure is the number of edges left. Assumes nothing.
 use Prim.Native.Nat.{◌+◌, ◌-◌, ◌≤◌}
-use native.Mathlib.Nat.{add_assoc, add-zero}
-use native.Mathlib.Omega.{arith}
-use mathlib.Core.Path.{sym, subst}
 use Rattle.ring.specs.Columns.{points}
 use Rattle.ring.specs.Rings.{at}
 use Rattle.ring.specs.Walk.{head_of, Sight, Counts}
-use Rattle.ring.proofs.Walks.{counts-none, counts-edge, counts-on}
 use Rattle.columns.proofs.counting.stretch.Given as goal
 
 abbrev pub invariant-loop-j : goal.invariant-loop-j

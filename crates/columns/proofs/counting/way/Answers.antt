@@ -1,6 +1,5 @@
 -- `columns::counting::way` is the way between two points of the grid. Assumes nothing.
 use mathlib.Core.Path.{sym, subst}
-use borrow.Author.Rules.{rules}
 use Rattle.ring.specs.Walk.{head_of, OnGrid, Way}
 use Rattle.ring.proofs.OnGrid.{head-short, way-between}
 use Rattle.columns.proofs.Spots.{on-grid}

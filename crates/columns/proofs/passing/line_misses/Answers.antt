@@ -5,7 +5,6 @@ use lib.ListN.{length}
 use Rattle.ring.proofs.OnGrid.{held}
 use Rattle.columns.specs.Walk.{Beside}
 use Rattle.columns.proofs.Sides.{row-misses, column-misses}
-use borrow.Author.Rules.{rules}
 use Rattle.columns.proofs.passing.line_misses.Goals as goal
 
 pub returns-then-row : goal.returns-then-row

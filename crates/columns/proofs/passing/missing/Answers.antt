@@ -1,5 +1,4 @@
 -- `columns::passing::missing` asks one line, then the other. Assumes nothing.
-use borrow.Author.Rules.{rules}
 use Rattle.columns.proofs.passing.missing.Goals as goal
 
 pub returns-then-line_misses : goal.returns-then-line_misses

@@ -1,12 +1,8 @@
 -- `columns::places::edges` takes every edge in turn. The invariant: the span is that of the edges before e, and `from` leads to vertex e. Assumes nothing.
-use Prim.Native.Nat.{ℕ, suc, ◌-◌, ◌<◌}
-use native.Mathlib.Numerals.{add-one}
-use native.Mathlib.Omega.{arith}
-use mathlib.Core.Path.{◌≡◌, sym, ap, subst, ◌∙◌}
+use Prim.Native.Nat.{ℕ, ◌-◌, ◌<◌}
 use mathlib.Core.List.{List}
 use lib.IntN.{ℤ}
 use lib.ListN.{length}
-use borrow.Author.Rules.{rules}
 use Rattle.exact.specs.declared.Arrow.{Arrow}
 use Rattle.ring.specs.declared.Point.{Point}
 use Rattle.ring.specs.declared.places.Span.{Span}
@@ -14,9 +10,7 @@ use Rattle.ring.specs.Columns.{points}
 use Rattle.ring.specs.Rings.{at}
 use Rattle.ring.specs.Locate.{on_edge}
 use Rattle.ring.specs.Walk.{head_of, Way}
-use Rattle.ring.proofs.Vertices.{at-end}
-use Rattle.ring.proofs.Columns.{length-points}
-use Rattle.ring.proofs.Spans.{Spans, spans-none, spans-edge, spans_all}
+use Rattle.ring.proofs.Spans.{Spans}
 use Rattle.columns.proofs.places.edges.Given as goal
 
 pub record Walked (xs ys : List ℤ) (R : Point) (s : Span) (from : Arrow) (e : ℕ) : Type 0 where

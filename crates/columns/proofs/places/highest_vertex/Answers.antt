@@ -1,10 +1,8 @@
 -- `columns::places::highest_vertex` looks at every vertex from the last on. The invariant: the highest is among those left. Assumes nothing.
-use Prim.Native.Nat.{suc, ◌-◌, ◌≤◌}
+use Prim.Native.Nat.{suc, ◌-◌}
 use native.Mathlib.Nat.{le_refl}
 use native.Mathlib.Omega.{arith}
 use mathlib.Core.Path.{◌≡◌, refl, sym, ap, ◌∙◌}
-use lib.ListN.{length}
-use borrow.Author.Rules.{rules}
 use Rattle.ring.specs.Columns.{points}
 use Rattle.ring.specs.Segment.{same}
 use Rattle.ring.specs.Locate.{highest, at_vertex}

@@ -1,14 +1,9 @@
 -- `columns::places::highest_vertex` looks at every vertex from the last on. The invariant: the highest is among those left. Assumes nothing.
-use Prim.Native.Nat.{suc, ◌-◌, ◌≤◌}
-use native.Mathlib.Nat.{le_refl}
-use native.Mathlib.Omega.{arith}
-use mathlib.Core.Path.{◌≡◌, refl, sym, ap, ◌∙◌}
+use Prim.Native.Nat.{◌≤◌}
+use mathlib.Core.Path.{◌≡◌}
 use lib.ListN.{length}
-use borrow.Author.Rules.{rules}
 use Rattle.ring.specs.Columns.{points}
-use Rattle.ring.specs.Segment.{same}
 use Rattle.ring.specs.Locate.{highest, at_vertex}
-use Rattle.ring.proofs.Search.{highest-none, highest-hit, highest-miss}
 use Rattle.columns.proofs.places.highest_vertex.Given as goal
 
 abbrev pub invariant-loop-left : goal.invariant-loop-left

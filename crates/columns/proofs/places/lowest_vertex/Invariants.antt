@@ -1,13 +1,8 @@
 -- `columns::places::lowest_vertex` looks at every vertex in turn. The invariant: none of those before v is r. Assumes nothing.
 use Prim.Native.Nat.{◌-◌}
-use native.Mathlib.Omega.{arith}
-use mathlib.Core.Path.{◌≡◌, sym, ap, ◌∙◌}
-use lib.ListN.{length}
-use borrow.Author.Rules.{rules}
 use Rattle.ring.specs.Columns.{points}
-use Rattle.ring.specs.Segment.{same}
 use Rattle.ring.specs.Locate.{at_vertex}
-use Rattle.ring.proofs.Search.{Unmet, unmet-none, unmet-more, unmet-hit, unmet-all}
+use Rattle.ring.proofs.Search.{Unmet}
 use Rattle.columns.proofs.places.lowest_vertex.Given as goal
 
 abbrev pub invariant-loop-v : goal.invariant-loop-v

@@ -1,6 +1,5 @@
 -- `columns::rows::one` tests both bounds. Assumes nothing.
 use lib.Dec.{ltb, leb}
-use borrow.Author.Rules.{rules}
 use borrow.Author.Tests.{leb-true, ltb-true}
 use Rattle.columns.proofs.Scans.{both}
 use Rattle.columns.proofs.rows.one.Goals as goal

@@ -5,11 +5,11 @@ use mathlib.Core.Path.{subst}
 use lib.IntN.{pos}
 use lib.ListN.{length, get_or}
 use mir.Syntax.{w32}
-use mir.Val.{SFits, to_z}
+use mir.Val.{SFits}
 use mir.Facts.{to_z-of_z}
 use borrow.Author.Rules.{rules}
 use Rattle.columns.specs.Rows.{Scanned}
-use Rattle.columns.proofs.Scans.{Swept, swept_none, swept-more, swept-few, swept_all}
+use Rattle.columns.proofs.Scans.{swept_none, swept-more, swept-few, swept_all}
 use Rattle.columns.proofs.rows.scan.Goals as goal
 
 pub offset_bounds-ys-n : goal.offset_bounds-ys-n

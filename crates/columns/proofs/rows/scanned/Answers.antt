@@ -2,7 +2,6 @@
 use native.Mathlib.Omega.{arith}
 use mathlib.Core.Path.{sym, subst}
 use lib.ListN.{length}
-use borrow.Author.Rules.{rules}
 use Rattle.ring.specs.declared.Point.{Point}
 use Rattle.ring.specs.Columns.{points}
 use Rattle.ring.specs.Walk.{head_of, Counts, none, Counted}

@@ -1,5 +1,4 @@
 -- `columns::rows::twice` tests all three. Assumes nothing.
-use borrow.Author.Rules.{rules}
 use Rattle.columns.proofs.Scans.{both}
 use Rattle.columns.proofs.rows.twice.Goals as goal
 
