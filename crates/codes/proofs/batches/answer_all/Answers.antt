@@ -1,42 +1,38 @@
 -- `codes::batches::answer_all`: after i points their answers stand at the front, and behind them what was there. Assumes nothing.
-use Prim.Native.Nat.{◌*◌, ◌+◌, ◌-◌, ◌^◌, ◌≤◌, ◌<◌}
+use Prim.Native.Nat.{◌*◌, ◌+◌, ◌^◌, ◌≤◌, ◌<◌}
 use native.Mathlib.Omega.{arith}
 use native.Mathlib.Nat.{div-mul-le_self}
 use mathlib.Core.Path.{ap, ◌∙◌}
 use lib.ListN.{length}
 use borrow.Author.Rules.{rules}
-use Rattle.codes.specs.Batches.{answer_to, answer_by}
-use Rattle.codes.proofs.Batched.{one-room, one-tail, Answered, answered-none, answered-more, answered-all}
+use Rattle.codes.specs.Batches.{answer_to}
+use Rattle.codes.proofs.Batched.{one-room, one-tail, answered-none, answered-more, answered-all}
 use Rattle.codes.proofs.batches.answer_all.Goals as goal
 
 pub loop-i-init : goal.loop-i-init
 loop-i-init c = answered-none _ _ _
 
--- there is room for one answer more
-
--- and a list is no longer than memory
-
 pub point_at-requires : goal.point_at-requires
 point_at-requires c = omega (arith, c.loop-i-test.true, div-mul-le_self (length c.args.points.now) 2)
 
 pub place_listed-a-requires : goal.place_listed-a-requires
-place_listed-a-requires c = record { good_runs = c.pre.0; indexed = c.pre.1.0 }
+place_listed-a-requires c = record { good_runs = c.requires.good_runs; indexed = c.requires.indexed }
 
 pub overflow_mul-i : goal.overflow_mul-i
 overflow_mul-i c =
-    let room : 9 * c.loop-i.i + 9 ≤ length c.loop-i.answers = one-room _ _ c.args.answers.now c.loop-i.answers c.loop-i.invariant.long c.pre.1.1 c.loop-i-test.true in
+    let room : 9 * c.loop-i.i + 9 ≤ length c.loop-i.answers = one-room _ _ c.args.answers.now c.loop-i.answers c.loop-i.invariant.long c.requires.points_in_bounds c.loop-i-test.true in
     let small : length c.loop-i.answers * 8 < 2 ^ 64 = search rules in
     omega (arith, room, small)
 
 pub offset_bounds-answers-i : goal.offset_bounds-answers-i
 offset_bounds-answers-i c =
-    let room : 9 * c.loop-i.i + 9 ≤ length c.loop-i.answers = one-room _ _ c.args.answers.now c.loop-i.answers c.loop-i.invariant.long c.pre.1.1 c.loop-i-test.true in
+    let room : 9 * c.loop-i.i + 9 ≤ length c.loop-i.answers = one-room _ _ c.args.answers.now c.loop-i.answers c.loop-i.invariant.long c.requires.points_in_bounds c.loop-i-test.true in
     let small : length c.loop-i.answers * 8 < 2 ^ 64 = search rules in
     omega (arith, room, small)
 
 pub slice_bounds-tell-count : goal.slice_bounds-tell-count
 slice_bounds-tell-count c =
-    let room : 9 * c.loop-i.i + 9 ≤ length c.loop-i.answers = one-room _ _ c.args.answers.now c.loop-i.answers c.loop-i.invariant.long c.pre.1.1 c.loop-i-test.true in
+    let room : 9 * c.loop-i.i + 9 ≤ length c.loop-i.answers = one-room _ _ c.args.answers.now c.loop-i.answers c.loop-i.invariant.long c.requires.points_in_bounds c.loop-i-test.true in
     omega (arith, room)
 
 pub tell-requires : goal.tell-requires
@@ -45,7 +41,7 @@ tell-requires c =
 
 pub overflow_add-i : goal.overflow_add-i
 overflow_add-i c =
-    let room : 9 * c.loop-i.i + 9 ≤ length c.loop-i.answers = one-room _ _ c.args.answers.now c.loop-i.answers c.loop-i.invariant.long c.pre.1.1 c.loop-i-test.true in
+    let room : 9 * c.loop-i.i + 9 ≤ length c.loop-i.answers = one-room _ _ c.args.answers.now c.loop-i.answers c.loop-i.invariant.long c.requires.points_in_bounds c.loop-i-test.true in
     let small : length c.loop-i.answers * 8 < 2 ^ 64 = search rules in
     omega (arith, room, small)
 

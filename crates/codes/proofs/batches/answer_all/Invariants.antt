@@ -1,12 +1,7 @@
 -- `codes::batches::answer_all`: after i points their answers stand at the front, and behind them what was there. Assumes nothing.
-use Prim.Native.Nat.{◌*◌, ◌+◌, ◌-◌, ◌^◌, ◌≤◌, ◌<◌}
-use native.Mathlib.Omega.{arith}
-use native.Mathlib.Nat.{div-mul-le_self}
-use mathlib.Core.Path.{ap, ◌∙◌}
-use lib.ListN.{length}
-use borrow.Author.Rules.{rules}
-use Rattle.codes.specs.Batches.{answer_to, answer_by}
-use Rattle.codes.proofs.Batched.{one-room, one-tail, Answered, answered-none, answered-more, answered-all}
+use Prim.Native.Nat.{◌-◌}
+use Rattle.codes.specs.Batches.{answer_by}
+use Rattle.codes.proofs.Batched.{Answered}
 use Rattle.codes.proofs.batches.answer_all.Given as goal
 
 abbrev pub invariant-loop-i : goal.invariant-loop-i

@@ -5,16 +5,14 @@ use Rattle.refusals.specs.Verdicts.{accept, verdict_of}
 use Rattle.districts.specs.Lent.{Lists, lent}
 use Rattle.codes.specs.Batches.{batch}
 use Rattle.codes.proofs.Batched.{batch-good, batch-left}
-use borrow.Author.Rules.{rules}
 use Rattle.codes.proofs.batches.assign_all.Goals as goal
-
--- nothing is refused
 
 pub answer_indexed-requires : goal.answer_indexed-requires
 answer_indexed-requires c =
     let lists : Lists = lent c.args.ox.now c.args.oy.now c.args.sx.now c.args.sy.now c.args.runs.now in
     let accepted : batch lists c.args.points.now (length c.args.answers.now) ≡ accept = sym c.judged.ensures ∙ ap verdict_of c.in-Accepted.is in
-    batch-good lists c.args.points.now _ accepted
+    let good = batch-good lists c.args.points.now _ accepted in
+    record { good_runs = good.0; points_in_bounds = good.1 }
 
 pub returns-in-Accepted : goal.returns-in-Accepted
 returns-in-Accepted c =

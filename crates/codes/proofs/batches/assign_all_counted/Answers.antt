@@ -11,8 +11,6 @@ use Rattle.codes.proofs.Batched.{batch-good, left-again}
 use borrow.Author.Rules.{rules}
 use Rattle.codes.proofs.batches.assign_all_counted.Goals as goal
 
--- nothing is refused
-
 pub count_all-requires : goal.count_all-requires
 count_all-requires c =
     let lists : Lists = lent c.args.ox.now c.args.oy.now c.args.sx.now c.args.sy.now c.args.runs.now in

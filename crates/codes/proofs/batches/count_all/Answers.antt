@@ -1,17 +1,13 @@
 -- `codes::batches::count_all`: after i answers they are counted, told anew at the front, and behind them stands what was there. Assumes nothing.
-use Prim.Native.Nat.{◌*◌, ◌+◌, ◌-◌, ◌^◌, ◌≤◌, ◌<◌}
+use Prim.Native.Nat.{◌*◌, ◌+◌, ◌^◌, ◌≤◌, ◌<◌}
 use native.Mathlib.Omega.{arith}
 use lib.ListN.{length}
 use borrow.Author.Rules.{rules}
-use Rattle.codes.proofs.Batched.{one-room, one-tail, Counted, counted_none, counted_next, counted-all}
+use Rattle.codes.proofs.Batched.{one-room, one-tail, counted_none, counted_next, counted-all}
 use Rattle.codes.proofs.batches.count_all.Goals as goal
 
 pub loop-i-init : goal.loop-i-init
 loop-i-init c = counted_none _ _ _
-
--- there is room for one answer more
-
--- and a list is no longer than memory
 
 pub overflow_mul-i : goal.overflow_mul-i
 overflow_mul-i c =

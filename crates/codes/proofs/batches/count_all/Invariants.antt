@@ -1,9 +1,6 @@
 -- `codes::batches::count_all`: after i answers they are counted, told anew at the front, and behind them stands what was there. Assumes nothing.
-use Prim.Native.Nat.{◌*◌, ◌+◌, ◌-◌, ◌^◌, ◌≤◌, ◌<◌}
-use native.Mathlib.Omega.{arith}
-use lib.ListN.{length}
-use borrow.Author.Rules.{rules}
-use Rattle.codes.proofs.Batched.{one-room, one-tail, Counted, counted_none, counted_next, counted-all}
+use Prim.Native.Nat.{◌-◌}
+use Rattle.codes.proofs.Batched.{Counted}
 use Rattle.codes.proofs.batches.count_all.Given as goal
 
 abbrev pub invariant-loop-i : goal.invariant-loop-i

@@ -1,5 +1,4 @@
 -- `codes::batches::count_told` leaves a refusal alone, and counts any other answer. Assumes nothing.
-use borrow.Author.Rules.{rules}
 use Rattle.codes.proofs.Places.{raised-as}
 use Rattle.codes.proofs.Batched.{refusal-told, raised-told, full-told}
 use Rattle.codes.proofs.batches.count_told.Goals as goal

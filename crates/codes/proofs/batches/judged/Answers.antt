@@ -2,7 +2,6 @@
 use mathlib.Core.Path.{sym, ap, ◌∙◌}
 use Rattle.refusals.specs.Verdicts.{verdict_of}
 use Rattle.refusals.proofs.Verdicts.{stops-early, passes-first}
-use borrow.Author.Rules.{rules}
 use Rattle.codes.proofs.batches.judged.Goals as goal
 
 pub returns-in-Accepted : goal.returns-in-Accepted

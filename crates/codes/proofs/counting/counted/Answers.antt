@@ -1,6 +1,5 @@
 -- `codes::counting::counted` meets its contract. Assumes nothing.
 use mathlib.Core.Path.{ap}
-use borrow.Author.Rules.{rules}
 use Rattle.districts.specs.Answers.{answer_of}
 use Rattle.codes.proofs.Places.{counted-as, refusal-passes}
 use Rattle.codes.proofs.counting.counted.Goals as goal

@@ -3,13 +3,10 @@ use Prim.Native.Nat.{◌+◌, ◌<◌}
 use native.Mathlib.Omega.{arith}
 use mathlib.Core.Path.{refl, sym, ap, subst, ◌∙◌}
 use lib.ListN.{get_or, set}
-use borrow.Author.Rules.{rules}
 use Rattle.districts.specs.Answers.{report}
 use Rattle.codes.specs.Counts.{counts, place_of, CountedBy}
 use Rattle.codes.proofs.Places.{uncounted-refused, limit-refused, counted-more}
 use Rattle.codes.proofs.counting.raise.Goals as goal
-
--- there is a count
 
 pub returns-then-at-eq-COUNTS : goal.returns-then-at-eq-COUNTS
 returns-then-at-eq-COUNTS c n b at = uncounted-refused n b c.args.list.now (sym at ∙ c.if-at-eq-COUNTS.true)
@@ -19,9 +16,6 @@ returns-then-n c n b at =
     let counted : c.args.at < counts = omega (arith, c.requires.1, c.if-at-eq-COUNTS.false) in
     let list = c.args.list.now in
     limit-refused n b list (subst (λ k. k < counts) at counted) (ap (λ k. get_or list k 0) (sym at) ∙ c.if-n.true)
-
-pub overflow_add-list : goal.overflow_add-list
-overflow_add-list c = record { fits = omega (arith, c.slice_known-1.given c.args.at, c.if-n.false) }
 
 pub returns : goal.returns
 returns c n b at =

@@ -1,5 +1,4 @@
 -- `codes::counting::sorted` meets its contract. Assumes nothing.
-use borrow.Author.Rules.{rules}
 use Rattle.codes.proofs.Places.{raised-as}
 use Rattle.codes.proofs.counting.sorted.Goals as goal
 

@@ -1,6 +1,5 @@
 -- `codes::telling::assigned` meets its contract. Assumes nothing.
 use mathlib.Core.Path.{ap, sym}
-use borrow.Author.Rules.{rules}
 use Rattle.districts.specs.Answers.{answer_of}
 use Rattle.codes.specs.Codes.{answer_code}
 use Rattle.codes.proofs.Values.{tells_as}

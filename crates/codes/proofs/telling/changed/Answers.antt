@@ -1,6 +1,5 @@
 -- `codes::telling::changed` meets its contract. Assumes nothing.
 use mathlib.Core.Path.{ap, sym}
-use borrow.Author.Rules.{rules}
 use Rattle.changes.specs.Answers.{answer_of}
 use Rattle.codes.specs.Codes.{change_code}
 use Rattle.codes.proofs.Values.{tells_as}

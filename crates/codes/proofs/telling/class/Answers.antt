@@ -1,6 +1,5 @@
 -- `codes::telling::class` meets its contract. Assumes nothing.
 use mathlib.Core.Path.{ap, sym}
-use borrow.Author.Rules.{rules}
 use Rattle.districts.specs.Answers.{belongs}
 use Rattle.codes.specs.Codes.{class_code}
 use Rattle.codes.proofs.Values.{tells_as}

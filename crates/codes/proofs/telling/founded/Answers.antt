@@ -1,6 +1,5 @@
 -- `codes::telling::founded` meets its contract. Assumes nothing.
 use mathlib.Core.Path.{ap, sym}
-use borrow.Author.Rules.{rules}
 use Rattle.register.specs.Calls.{outcome_of}
 use Rattle.codes.specs.Codes.{verdict_code}
 use Rattle.codes.proofs.Values.{tells_as}

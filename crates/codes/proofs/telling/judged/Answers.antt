@@ -3,7 +3,6 @@ use mathlib.Core.Path.{sym, ap}
 use Rattle.refusals.specs.Verdicts.{verdict_of}
 use Rattle.codes.specs.Codes.{verdict_code}
 use Rattle.codes.proofs.Values.{tells_as}
-use borrow.Author.Rules.{rules}
 use Rattle.codes.proofs.telling.judged.Goals as goal
 
 pub returns-in-Refused : goal.returns-in-Refused

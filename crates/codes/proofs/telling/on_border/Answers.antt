@@ -1,6 +1,5 @@
 -- `codes::telling::on_border` meets its contract. Assumes nothing.
 use mathlib.Core.Path.{ap, sym}
-use borrow.Author.Rules.{rules}
 use Rattle.ring.specs.Locate.{touch_of}
 use Rattle.codes.specs.Codes.{on_border_code}
 use Rattle.codes.proofs.Values.{tells_as}

@@ -1,6 +1,5 @@
 -- `codes::telling::place` meets its contract. Assumes nothing.
 use mathlib.Core.Path.{ap, sym}
-use borrow.Author.Rules.{rules}
 use Rattle.ring.specs.Locate.{place_of}
 use Rattle.codes.specs.Codes.{place_code}
 use Rattle.codes.proofs.Values.{tells_as}

@@ -10,10 +10,9 @@ use Rattle.codes.proofs.telling.placed.Goals as goal
 
 pub returns-in-OnGrid : goal.returns-in-OnGrid
 returns-in-OnGrid c =
-    let p = c.p-1.given in
-    let east : SFits w32 p.0.0 = search rules in
-    let north : SFits w32 p.0.1.0 = search rules in
-    places-as (sym p.1) (record { tells = c.told.ensures; left = λ i. to_z-of_z east i ∷ to_z-of_z north i ∷ [] })
+    let east : SFits w32 c.in-OnGrid.x = search rules in
+    let north : SFits w32 c.in-OnGrid.y = search rules in
+    places-as (sym c.in-OnGrid.is) (record { tells = c.told.ensures; left = λ i. to_z-of_z east i ∷ to_z-of_z north i ∷ [] })
 
 pub returns-in-BeyondGrid : goal.returns-in-BeyondGrid
 returns-in-BeyondGrid c = places-as (sym c.in-BeyondGrid.is) (record { tells = c.refused.ensures; left = refl })

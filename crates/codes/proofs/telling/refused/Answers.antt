@@ -1,6 +1,5 @@
 -- `codes::telling::refused` meets its contract. Assumes nothing.
 use mathlib.Core.Path.{ap}
-use borrow.Author.Rules.{rules}
 use Rattle.codes.specs.Codes.{refused_code}
 use Rattle.codes.proofs.Values.{tells_as}
 use Rattle.codes.proofs.telling.refused.Goals as goal
