@@ -1,15 +1,7 @@
 -- `areas::locate_on` passes one ring after the other. The invariant: what is known of the area when k rings of it were passed (`Past`). Assumes nothing.
-use Prim.Native.Nat.{◌+◌, ◌-◌, ◌≤◌}
-use native.Mathlib.Omega.{arith}
-use mathlib.Core.Path.{◌≡◌, sym, ap, ◌∙◌}
-use mathlib.Core.List.{[], ◌∷◌}
-use lib.ListN.{take, drop}
-use borrow.Author.Rules.{rules}
-use Rattle.ring.specs.Columns.{points}
-use Rattle.areas.specs.declared.Lying.{Lying}
-use Rattle.areas.specs.Areas.{lies_from, lie_of}
+use Prim.Native.Nat.{◌-◌}
 use Rattle.areas.specs.Lengths.{most_rings}
-use Rattle.areas.proofs.Past.{Past, past-none, past_all, Read, past_end, next-least, next-inside, next-few, past-on, past_more}
+use Rattle.areas.proofs.Past.{Past}
 use Rattle.areas.proofs.locate_on.Given as goal
 
 abbrev pub invariant-loop-k : goal.invariant-loop-k

@@ -1,10 +1,7 @@
 -- `areas::lengths::no_rings` counts down the points. The invariant: the points left and the lengths left decide (`Left`). Assumes nothing.
-use Prim.Native.Nat.{◌-◌}
 use native.Mathlib.Omega.{arith}
-use lib.ListN.{length}
-use borrow.Author.Rules.{rules}
 use borrow.Author.Tests.{lt-ltb, le-ltb}
-use Rattle.areas.proofs.Used.{Left, left-early, left-start, left_end, Read, left-late, left-enough, left-more}
+use Rattle.areas.proofs.Used.{left-early, left-start, left_end, Read, left-late, left-enough, left-more}
 use Rattle.areas.proofs.lengths.no_rings.Goals as goal
 
 pub returns-then-points-lengths : goal.returns-then-points-lengths
