@@ -1,5 +1,4 @@
 -- `index::fitted` keeps an index that fits, and otherwise makes one along each axis. Assumes nothing.
-use borrow.Author.Rules.{rules}
 use Rattle.index.proofs.fitted.Goals as goal
 
 pub returns-then-axes : goal.returns-then-axes

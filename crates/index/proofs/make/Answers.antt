@@ -1,7 +1,6 @@
 -- `index::make` bounds the runs, lays the axis, and marks the bands: then the index fits. Assumes nothing.
 use native.Mathlib.Omega.{arith}
 use mathlib.Core.Path.{◌∙◌}
-use borrow.Author.Rules.{rules}
 use Rattle.index.proofs.Listing.{index-fits}
 use Rattle.index.proofs.make.Goals as goal
 
@@ -10,11 +9,9 @@ spanning-a-requires c = let b = c.bound_all.ensures in record { bounds_len = b.r
 
 pub mark_all-requires : goal.mark_all-requires
 mark_all-requires c =
-    let s = c.before.before in
     let b = c.bound_all.ensures in
-    record { masks_len = (c.clear.ensures.room ∙ s.requires.1.1, s.requires.0.runs-length, b.room); spans = c.spanning.ensures; by_index = b.order }
+    record { masks_len = (c.clear.ensures.room ∙ c.requires.bounds_len.1, c.requires.held.runs-length, b.room); spans = c.spanning-a.ensures; by_index = b.order }
 
 pub returns : goal.returns
 returns c =
-    let s = c.before.before in
-    index-fits _ _ s.requires.0 _ c.bound_all.ensures _ c.spanning.ensures _ c.mark_all.ensures
+    index-fits _ _ c.requires.held _ c.bound_all.ensures _ c.spanning-a.ensures _ c.mark_all.ensures

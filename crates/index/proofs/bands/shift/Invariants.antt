@@ -1,9 +1,5 @@
 -- `index::bands::shift` makes the shift larger as long as there are too many bands: by 32 there is only one. Assumes nothing.
-use Prim.Native.Nat.{ℕ, ◌-◌, ◌/◌, ◌^◌, ◌≤◌, ◌<◌}
-use native.Mathlib.Decide.{dec_lt}
-use native.Mathlib.Omega.{arith}
-use mathlib.Core.Path.{◌≡◌, ap}
-use lib.Pow.{shr_lt}
+use Prim.Native.Nat.{◌-◌, ◌≤◌}
 use Rattle.index.proofs.bands.shift.Given as goal
 
 abbrev pub invariant-loop-s : goal.invariant-loop-s

@@ -20,8 +20,8 @@ far-requires c =
     let order : le_z c.lowest-low.result.0 c.highest-high.result.0 ≡ true = let bounds = c.args.bounds.now in
     let low = c.lowest-low in
     let high = c.highest-high in
-    le_trans low.result.0 (low_of bounds 0) high.result.0 (low_half bounds low.result.0 c.pre.0 low.ensures 0 (omega arith))
-    (le_trans (low_of bounds 0) (high_of bounds 0) high.result.0 c.pre.1 (high_half bounds high.result.0 c.pre.0 high.ensures 0 (omega arith))) in
+    le_trans low.result.0 (low_of bounds 0) high.result.0 (low_half bounds low.result.0 c.requires.bounds_len low.ensures 0 (omega arith))
+    (le_trans (low_of bounds 0) (high_of bounds 0) high.result.0 c.requires.bounds_value (high_half bounds high.result.0 c.requires.bounds_len high.ensures 0 (omega arith))) in
     order
 
 pub returns : goal.returns
@@ -29,14 +29,14 @@ returns c =
     let order : le_z c.lowest-low.result.0 c.highest-high.result.0 ≡ true = let bounds = c.args.bounds.now in
     let low = c.lowest-low in
     let high = c.highest-high in
-    le_trans low.result.0 (low_of bounds 0) high.result.0 (low_half bounds low.result.0 c.pre.0 low.ensures 0 (omega arith))
-    (le_trans (low_of bounds 0) (high_of bounds 0) high.result.0 c.pre.1 (high_half bounds high.result.0 c.pre.0 high.ensures 0 (omega arith))) in
+    le_trans low.result.0 (low_of bounds 0) high.result.0 (low_half bounds low.result.0 c.requires.bounds_len low.ensures 0 (omega arith))
+    (le_trans (low_of bounds 0) (high_of bounds 0) high.result.0 c.requires.bounds_value (high_half bounds high.result.0 c.requires.bounds_len high.ensures 0 (omega arith))) in
     let bounds = c.args.bounds.now in
     let f : SFits w32 c.lowest-low.result.0 = search rules in
     let g : SFits w32 c.highest-high.result.0 = search rules in
     simp (to_z-of_z f, to_z-of_z g)
     (record {
       axis = record { order = order; most = c.shift.ensures.0; few = subst (λ n. n / 2 ^ c.shift.result < 64) c.far.ensures.0 c.shift.ensures.1 };
-      low = low_half bounds c.lowest-low.result.0 c.pre.0 c.lowest-low.ensures;
-      high = high_half bounds c.highest-high.result.0 c.pre.0 c.highest-high.ensures;
+      low = low_half bounds c.lowest-low.result.0 c.requires.bounds_len c.lowest-low.ensures;
+      high = high_half bounds c.highest-high.result.0 c.requires.bounds_len c.highest-high.ensures;
     })

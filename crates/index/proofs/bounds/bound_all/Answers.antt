@@ -1,10 +1,7 @@
 -- `index::bounds::bound_all` bounds one number after the other. Assumes nothing.
-use Prim.Native.Nat.{◌-◌, ◌≤◌}
 use native.Mathlib.Omega.{arith}
-use mathlib.Core.Path.{◌≡◌, refl}
-use lib.ListN.{length}
+use mathlib.Core.Path.{refl}
 use borrow.Author.Rules.{rules}
-use Rattle.index.specs.Axis.{Bounded}
 use Rattle.index.proofs.Bounding.{bounded-none, bounded-all}
 use Rattle.index.proofs.bounds.bound_all.Goals as goal
 

@@ -1,11 +1,8 @@
 -- `index::bounds::bound_all` bounds one number after the other. Assumes nothing.
 use Prim.Native.Nat.{◌-◌, ◌≤◌}
-use native.Mathlib.Omega.{arith}
-use mathlib.Core.Path.{◌≡◌, refl}
+use mathlib.Core.Path.{◌≡◌}
 use lib.ListN.{length}
-use borrow.Author.Rules.{rules}
 use Rattle.index.specs.Axis.{Bounded}
-use Rattle.index.proofs.Bounding.{bounded-none, bounded-all}
 use Rattle.index.proofs.bounds.bound_all.Given as goal
 
 abbrev pub invariant-loop-d : goal.invariant-loop-d

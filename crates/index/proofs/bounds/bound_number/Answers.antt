@@ -6,7 +6,6 @@ use lib.IntN.{pos}
 use lib.ListN.{length, get_or, take, drop}
 use mir.Syntax.{w32}
 use mir.Val.{to_z, of_z}
-use borrow.Author.Rules.{rules}
 use Rattle.districts.specs.Lists.{size, part}
 use Rattle.districts.proofs.Lent.{cut, part_length}
 use Rattle.index.specs.Axis.{run, From, UpTo, Bounded}

@@ -1,16 +1,15 @@
 -- `index::bounds::lowest`: after j numbers it is a low bound of them. Assumes nothing.
-use Prim.Native.Nat.{◌-◌, ◌≤◌}
 use native.Mathlib.Omega.{arith}
 use mathlib.Core.Path.{◌≡◌, sym, subst}
 use mathlib.Core.Bool.{true}
 use lib.IntN.{pos}
-use lib.ListN.{length, get_or}
+use lib.ListN.{get_or}
 use lib.Signed.{le_z}
 use mir.Syntax.{w32}
 use mir.Val.{SFits}
 use mir.Facts.{to_z-of_z}
 use borrow.Author.Rules.{rules}
-use Rattle.index.proofs.Order.{le_trans, lower-le, BoundsTo, bounds-more}
+use Rattle.index.proofs.Order.{le_trans, lower-le, bounds-more}
 use Rattle.index.proofs.bounds.lowest.Goals as goal
 
 pub loop-j-init : goal.loop-j-init

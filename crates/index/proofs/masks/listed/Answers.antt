@@ -43,7 +43,7 @@ offset_bounds-masks-band c =
     simp (to_z-of_z f, to_z-of_z g, to_z-of_z h) at c.if-v-a.false in
     let from : let a = c.args in le_z a.a.low a.v.0 ≡ true = let a = c.args in not-lt a.v.0 a.a.low (neither_left (lt_z a.v.0 a.a.low) _ beyond) in
     let to : let a = c.args in le_z a.v.0 a.a.high ≡ true = let a = c.args in not-lt a.a.high a.v.0 (neither_right (lt_z a.v.0 a.a.low) _ beyond) in
-    let few : c.band.result < 64 = omega (arith, c.band.ensures, band-few c.args.a c.args.v.0 c.pre.1 from to) in
+    let few : c.band.result < 64 = omega (arith, c.band.ensures, band-few c.args.a c.args.v.0 c.requires.on_axis from to) in
     omega (arith, few)
 
 pub bounds-masks-band : goal.bounds-masks-band
@@ -55,7 +55,7 @@ bounds-masks-band c =
     simp (to_z-of_z f, to_z-of_z g, to_z-of_z h) at c.if-v-a.false in
     let from : let a = c.args in le_z a.a.low a.v.0 ≡ true = let a = c.args in not-lt a.v.0 a.a.low (neither_left (lt_z a.v.0 a.a.low) _ beyond) in
     let to : let a = c.args in le_z a.v.0 a.a.high ≡ true = let a = c.args in not-lt a.a.high a.v.0 (neither_right (lt_z a.v.0 a.a.low) _ beyond) in
-    let few : c.band.result < 64 = omega (arith, c.band.ensures, band-few c.args.a c.args.v.0 c.pre.1 from to) in
+    let few : c.band.result < 64 = omega (arith, c.band.ensures, band-few c.args.a c.args.v.0 c.requires.on_axis from to) in
     omega (arith, c.requires.masks_len, few)
 
 pub returns : goal.returns

@@ -1,17 +1,10 @@
 -- `index::masks::mark`: the bands from the first to b have the bit, and all bits that were there are. Assumes nothing.
-use Prim.Native.Nat.{ℕ, suc, ◌+◌, ◌-◌, ◌*◌, ◌%◌, ◌^◌, ◌≤◌, ◌<◌}
-use native.Mathlib.Decide.{ℕ_discrete}
-use native.Mathlib.Omega.{arith}
-use native.Mathlib.Nat.{mod-eq_of_lt}
-use mathlib.Core.Path.{◌≡◌, refl, sym, ap, subst, ◌∙◌}
+use Prim.Native.Nat.{ℕ, suc, ◌-◌, ◌≤◌, ◌<◌}
+use mathlib.Core.Path.{◌≡◌}
 use mathlib.Core.Bool.{true}
 use mathlib.Core.List.{List}
-use lib.Bits.{bit_or}
-use lib.ListN.{length, get_or, set, length-set}
-use lib.Pow.{pow-lt}
-use lib.Seq.{get_or-set_same, get_or-set_other}
+use lib.ListN.{length, get_or}
 use Rattle.index.specs.Axis.{bit}
-use Rattle.index.proofs.Bits.{or-keeps, or-adds, power-bit}
 use Rattle.index.proofs.masks.mark.Given as goal
 
 pub record Wider (before : List ℕ) (d from b : ℕ) (after : List ℕ) : Type 0 where

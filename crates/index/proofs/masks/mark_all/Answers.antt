@@ -1,10 +1,7 @@
 -- `index::masks::mark_all` marks one number after the other. Assumes nothing.
-use Prim.Native.Nat.{◌-◌, ◌≤◌}
 use native.Mathlib.Omega.{arith}
-use mathlib.Core.Path.{◌≡◌, refl}
-use lib.ListN.{length}
+use mathlib.Core.Path.{refl}
 use borrow.Author.Rules.{rules}
-use Rattle.index.specs.Axis.{Marked}
 use Rattle.index.proofs.Listing.{marked-none, marked_all}
 use Rattle.index.proofs.masks.mark_all.Goals as goal
 

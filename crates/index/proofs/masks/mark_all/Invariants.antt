@@ -1,11 +1,8 @@
 -- `index::masks::mark_all` marks one number after the other. Assumes nothing.
 use Prim.Native.Nat.{◌-◌, ◌≤◌}
-use native.Mathlib.Omega.{arith}
-use mathlib.Core.Path.{◌≡◌, refl}
+use mathlib.Core.Path.{◌≡◌}
 use lib.ListN.{length}
-use borrow.Author.Rules.{rules}
 use Rattle.index.specs.Axis.{Marked}
-use Rattle.index.proofs.Listing.{marked-none, marked_all}
 use Rattle.index.proofs.masks.mark_all.Given as goal
 
 abbrev pub invariant-loop-d : goal.invariant-loop-d
