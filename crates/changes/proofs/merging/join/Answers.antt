@@ -7,7 +7,6 @@ use Rattle.ring.proofs.Vertices.{length-vertices}
 use Rattle.room.specs.Writing.{Added}
 use Rattle.room.proofs.Leaving.{left-total}
 use Rattle.changes.proofs.Merges.{merged-is, second-size, first-total, still-inside}
-use borrow.Author.Rules.{rules}
 use Rattle.changes.proofs.merging.join.Goals as goal
 
 pub remove-requires-2 : goal.remove-requires-2
@@ -17,7 +16,7 @@ remove-requires-2 c =
     let l = c.remove.ensures in
     let inside = still-inside (points a.sx.now a.sy.now) a.runs.now a.kept a.gone p _ _ l in
     let all = first-total (points a.sx.now a.sy.now) a.runs.now a.kept a.gone p _ _ l in
-    record { sx_len = (c.remove.auto.0 ∙ c.requires.sx_len.0, c.remove.auto.1.0 ∙ c.requires.sx_len.1); runs_len = l.long-runs; d_bound = p.second; d_bound_2 = (inside, omega (arith, all, p.most)) }
+    record { sx_len = (c.remove.auto.sx ∙ c.requires.sx_len.0, c.remove.auto.sy ∙ c.requires.sx_len.1); runs_len = l.long-runs; d_bound = p.second; d_bound_2 = (inside, omega (arith, all, p.most)) }
 
 pub add_two_runs-requires : goal.add_two_runs-requires
 add_two_runs-requires c =
@@ -30,21 +29,21 @@ add_two_runs-requires c =
     let store = points a.sx.now a.sy.now in
     let many = second-size store a.runs.now a.kept a.gone p _ _ c.remove.ensures in
     let all = first-total store a.runs.now a.kept a.gone p _ _ c.remove.ensures in
-    let rest = left-total (points c.remove.new.0 c.remove.new.1.0) c.remove.new.1.1.0 a.gone _ _ p.second l₂ in record { sx_len = (c.remove-2.auto.0 ∙ c.remove.auto.0 ∙ c.requires.sx_len.0, c.remove-2.auto.1.0 ∙ c.remove.auto.1.0 ∙ c.requires.sx_len.1, l₂.long-runs, p.first); ring_len = first.0; i_le_n = (omega (arith, c.around-first.ensures.1), omega (arith, edges)); other_len = second.0; j_le_m = (omega (arith, second), omega arith); k_bound = omega (arith, many, all, rest, p.most, first, second, edges) }
+    let rest = left-total (points c.remove.new.sx c.remove.new.sy) c.remove.new.runs a.gone _ _ p.second l₂ in record { sx_len = (c.remove-2.auto.sx ∙ c.remove.auto.sx ∙ c.requires.sx_len.0, c.remove-2.auto.sy ∙ c.remove.auto.sy ∙ c.requires.sx_len.1, l₂.long-runs, p.first); ring_len = first.0; i_le_n = (omega (arith, c.around-first.ensures.1), omega (arith, edges)); other_len = second.0; j_le_m = (omega (arith, second), omega arith); k_bound = omega (arith, many, all, rest, p.most, first, second, edges) }
 
 pub returns : goal.returns
 returns c =
     let a = c.args in
-    let store₂ = points c.remove-2.new.0 c.remove-2.new.1.0 in
-    let runs₂ = c.remove-2.new.1.1.0 in
+    let store₂ = points c.remove-2.new.sx c.remove-2.new.sy in
+    let runs₂ = c.remove-2.new.runs in
     record {
-      store₁ = points c.remove.new.0 c.remove.new.1.0;
-      runs₁ = c.remove.new.1.1.0;
+      store₁ = points c.remove.new.sx c.remove.new.sy;
+      runs₁ = c.remove.new.runs;
       store₂ = store₂;
       runs₂ = runs₂;
       first = c.remove.ensures;
       second = c.remove-2.ensures;
-      taken = subst (λ R. Added store₂ runs₂ a.kept R (points c.add_two_runs.new.0 c.add_two_runs.new.1.0) c.add_two_runs.new.1.1.0)
+      taken = subst (λ R. Added store₂ runs₂ a.kept R (points c.add_two_runs.new.sx c.add_two_runs.new.sy) c.add_two_runs.new.runs)
           (merged-is (vertices a.ring.now) (vertices a.other.now) a.a a.b a.n a.m a.k c.around-first.result (length-vertices a.ring.now a.n c.requires.ring_len.0) (length-vertices a.other.now a.m c.requires.other_len.0) c.around-first.ensures.0)
           c.add_two_runs.ensures;
     }
