@@ -17,9 +17,9 @@ ghost use Rattle.stream.specs.Desks.{broken_line, last_line};
 ghost use Rattle.launchramp.specs.Held.{piece, Kept, Onward, Held, Turned, Went, last_text, Opens};
 
 use index::Axes;
-use libc::STDERR_FILENO;
 use ports::written;
 use refusals::Refusal;
+use std::rt::Runtime;
 use stream::Stop;
 use tally::Tally;
 use wording::{Kind, Said};
@@ -54,7 +54,7 @@ fn shift(input: &mut [u8], at: usize, n: usize)
 }
 
 // Keeps what is left in the buffer, and reads more behind it; at the end of the input what is left is a cut record.
-fn refilled(input: &mut [u8], d: Reading) -> Reading
+fn refilled<R: Runtime>(rt: &R, input: &mut [u8], d: Reading) -> Reading
     requires { Kept d input.old }
     ensures { Onward More d result input.old input.new }
 {
@@ -63,7 +63,7 @@ fn refilled(input: &mut [u8], d: Reading) -> Reading
     let tally = d.tally;
     let axes = d.axes;
     shift(input, at, left);
-    let filled = ports::read_behind(input, left);
+    let filled = ports::read_behind(rt, input, left);
     Reading {
         tally,
         axes,
@@ -95,22 +95,23 @@ fn ended(d: Reading, broken: bool) -> Reading
 }
 
 // Writes what was printed, and reads on where another record may follow.
-fn follow(input: &mut [u8], printed: &[u8], d: Reading, stop: Stop) -> Reading
+fn follow<R: Runtime>(rt: &R, input: &mut [u8], printed: &[u8], d: Reading, stop: Stop) -> Reading
     requires { Kept d input.old × (d.going ≡ true) × (d.broken ≡ false) }
     ensures { Onward stop d result input.old input.new }
 {
-    if !written(printed) {
+    if !written(rt, printed) {
         return ended(d, false);
     }
     match stop {
         Stop::Full => d,
-        Stop::More => refilled(input, d),
+        Stop::More => refilled(rt, input, d),
         Stop::Broken => ended(d, true),
     }
 }
 
 // Prints the records in the buffer, and reads on.
-fn turn(
+fn turn<R: Runtime>(
+    rt: &R,
     input: &mut [u8],
     output: &mut [u8],
     coordinates: &mut [i32; 4096],
@@ -162,10 +163,11 @@ fn turn(
         broken: false,
         failed: false,
     };
-    follow(input, &output[0..filled], next, stop)
+    follow(rt, input, &output[0..filled], next, stop)
 }
 
-fn read_all(
+fn read_all<R: Runtime>(
+    rt: &R,
     input: &mut [u8],
     output: &mut [u8],
     coordinates: &mut [i32; 4096],
@@ -196,6 +198,7 @@ fn read_all(
     let mut turns = ports::TRIES;
     while d.going & (0 < turns) {
         d = turn(
+            rt,
             input,
             output,
             coordinates,
@@ -248,21 +251,18 @@ fn last_lines(to: &mut [u8], d: Reading) -> usize
 }
 
 // Writes the last lines, and then says that a broken record ended the stream.
-fn close(to: &mut [u8], d: Reading)
+fn close<R: Runtime>(rt: &R, to: &mut [u8], d: Reading)
     requires { length to.old ≡ piece }
 {
     let broken = d.broken;
     let n = last_lines(to, d);
-    let is_written = written(&to[0..n]);
+    let is_written = written(rt, &to[0..n]);
     if is_written & broken {
-        io::write_all(
-            STDERR_FILENO,
-            b"launchramp: a broken record ended the stream\n",
-        );
+        let _ = eprintln!(rt; "launchramp: a broken record ended the stream");
     }
 }
 
-fn main() {
+fn main(rt: HostRuntime) {
     let mut input = [0u8; PIECE];
     let mut output = [0u8; PIECE];
     let mut coordinates = [0i32; 4096];
@@ -276,6 +276,7 @@ fn main() {
     let mut mx = [0u64; 64];
     let mut my = [0u64; 64];
     let d = read_all(
+        &rt,
         &mut input,
         &mut output,
         &mut coordinates,
@@ -289,5 +290,5 @@ fn main() {
         &mut mx,
         &mut my,
     );
-    close(&mut output, d);
+    close(&rt, &mut output, d);
 }

@@ -3,15 +3,19 @@
 ghost use Rattle.std.specs.Prelude.{◌≤◌, length};
 ghost use Rattle.launchramp.specs.Held.{Brought};
 
-use libc::types::timespec;
-use libc::{EAGAIN, EINTR, STDIN_FILENO, STDOUT_FILENO};
+use std::io::{self, ErrorKind, Read};
+use std::rt::Runtime;
+use std::thread;
+use std::time::Duration;
 
 // A proved loop has to end, and nothing says that the input does, or that what a call waits for comes: tries and turns are counted down from a
 // number that no run uses up. It is 22,000 years of waits, or 64 tebibytes that come byte by byte.
 pub const TRIES: usize = 70_368_744_177_664;
 
-// In nanoseconds: a hundredth of a second.
-const WAIT: i64 = 10_000_000;
+const WAIT_MILLISECONDS: u64 = 10;
+
+// What std puts behind the system's words for an error, with its number; it is not said.
+const NUMBERED: &str = " (os error ";
 
 // What a read brought: the buffer's bytes go to `end`; `going` while more may come, `failed` once the input can't be read.
 #[derive(Clone, Copy)]
@@ -21,64 +25,71 @@ pub struct Filled {
     pub failed: bool,
 }
 
-fn sleep(asked: timespec) -> i32 {
-    let mut left = asked;
-    libc::nanosleep(&asked, &mut left)
+// The system's words alone.
+fn reason(text: &str) -> &str {
+    match text.split_once(NUMBERED) {
+        Some((before, _)) => before,
+        None => text,
+    }
 }
 
-// Whether the call that failed just now is to be made again; if not, the sentence is said with the reason.
-fn is_tried_again(sentence: &[u8]) -> bool {
-    let error = os::errno();
-    if error == EAGAIN {
-        sleep(timespec {
-            tv_sec: 0,
-            tv_nsec: WAIT,
-        });
-        return true;
+// Says the sentence on standard error, with the reason as the system words it.
+fn say<R: Runtime>(rt: &R, sentence: &str, error: io::Error) -> io::Result<()> {
+    let text = format!(in rt.alloc(); "{error}")?;
+    let words = reason(text.as_str());
+    eprintln!(rt; "{sentence}: {words}")
+}
+
+// Whether the call that failed with this error is to be made again; if not, the sentence is said with the reason.
+fn is_tried_again<R: Runtime>(rt: &R, error: io::Error, sentence: &str) -> bool {
+    match error.kind() {
+        ErrorKind::WouldBlock => {
+            thread::sleep(rt, Duration::from_millis(WAIT_MILLISECONDS));
+            true
+        }
+        ErrorKind::Interrupted => true,
+        _ => {
+            let _ = say(rt, sentence, error);
+            false
+        }
     }
-    if error == EINTR {
-        return true;
-    }
-    os::fail(sentence);
-    false
 }
 
 // Reads once behind the first n bytes.
-pub fn read_behind(input: &mut [u8], n: usize) -> Filled
+pub fn read_behind<R: Runtime>(rt: &R, input: &mut [u8], n: usize) -> Filled
     requires { n ≤ length input.old }
     ensures { Brought n result input.old input.new }
 {
-    let part = &mut input[n..];
-    let got = libc::read(STDIN_FILENO, part);
-    if got < 0 {
-        let going = is_tried_again(b"launchramp: the input could not be read");
-        return Filled {
-            end: n,
-            going,
-            failed: !going,
-        };
-    }
-    let more = io::count(got, part);
-    Filled {
-        end: n + more,
-        going: 0 < more,
-        failed: false,
+    match rt.reader().read(&mut input[n..]) {
+        Ok(more) => Filled {
+            end: n + more,
+            going: 0 < more,
+            failed: false,
+        },
+        Err(error) => {
+            let going = is_tried_again(rt, error, "launchramp: the input could not be read");
+            Filled {
+                end: n,
+                going,
+                failed: !going,
+            }
+        }
     }
 }
 
 // Writes all of the text, going on where a write stopped, and answers whether it could.
-pub fn written(text: &[u8]) -> bool {
+pub fn written<R: Runtime>(rt: &R, text: &[u8]) -> bool {
     let mut done = 0;
     let mut tries = TRIES;
     while (done < text.len()) & (0 < tries) {
-        let rest = &text[done..];
-        let put = libc::write(STDOUT_FILENO, rest);
-        if put < 1 {
-            if !is_tried_again(b"launchramp: the output could not be written") {
-                return false;
+        match rt.write_some(&text[done..]) {
+            Ok(put) => done += put,
+            Err(error) => {
+                if !is_tried_again(rt, error, "launchramp: the output could not be written") {
+                    return false;
+                }
             }
         }
-        done += io::count(put, rest);
         tries -= 1;
     }
     done == text.len()

@@ -4,6 +4,7 @@ ghost use Rattle.std.specs.Prelude.{◌≡◌, length};
 ghost use Rattle.test_rows.specs.Shape.{all_rows};
 
 use crate::{said, say};
+use std::io::Print;
 use test_cases::Edit;
 use test_lives::Score;
 use test_lives::answer::Both;
@@ -134,24 +135,24 @@ fn call(k: usize) -> Edit {
 }
 
 // Prints one call as the rules does.
-fn print(name: &[u8], edit: Edit, both: Both) {
-    say::text(name);
+fn print<R: Print>(rt: &R, name: &[u8], edit: Edit, both: Both) {
+    say::text(rt, name);
     match edit {
-        Edit::Found => say::text(b"outline "),
-        Edit::Split { d: _, i: _, j: _ } => say::text(b"split "),
+        Edit::Found => say::text(rt, b"outline "),
+        Edit::Split { d: _, i: _, j: _ } => say::text(rt, b"split "),
         Edit::Merge {
             kept: _,
             a: _,
             gone: _,
             b: _,
             k: _,
-        } => say::text(b"merge "),
+        } => say::text(rt, b"merge "),
         Edit::Report { number, sent: _ } => {
-            say::counted(b"report ", number as usize);
-            say::text(b" ");
+            say::counted(rt, b"report ", number as usize);
+            say::text(rt, b" ");
         }
     }
-    said::both(both);
+    said::both(rt, both);
 }
 
 // The points that a call takes: the first four for the outline, and what stands behind them for the path of a split.
@@ -165,7 +166,8 @@ fn points_of(edit: Edit, points: &[i32]) -> &[i32] {
     }
 }
 
-fn perform_all(
+fn perform_all<R: Print>(
+    rt: &R,
     ox: &mut [i32],
     oy: &mut [i32],
     sx: &mut [i32],
@@ -186,7 +188,7 @@ fn perform_all(
         let edit = call(k);
         let own = points_of(edit, points);
         let both = test_lives::perform(ox, oy, sx, sy, runs, rows, edit, own);
-        print(name, edit, both);
+        print(rt, name, edit, both);
         score = score.with(both);
         k += 1;
     }
@@ -194,7 +196,7 @@ fn perform_all(
 }
 
 // The calls from one up to another, for an outline of four vertices and the path behind them.
-fn listed(name: &[u8], first: usize, end: usize, points: &[i32]) -> Score {
+fn listed<R: Print>(rt: &R, name: &[u8], first: usize, end: usize, points: &[i32]) -> Score {
     let mut ox = [0i32; districts::COLUMN_LENGTH];
     let mut oy = [0i32; districts::COLUMN_LENGTH];
     let mut sx = [0i32; districts::COLUMN_LENGTH];
@@ -202,17 +204,23 @@ fn listed(name: &[u8], first: usize, end: usize, points: &[i32]) -> Score {
     let mut runs = [0u32; districts::RUNS_LENGTH];
     let mut rows = [0i32; test_rows::ROWS_LENGTH];
     perform_all(
-        &mut ox, &mut oy, &mut sx, &mut sy, &mut runs, &mut rows, name, first, end, points,
+        rt, &mut ox, &mut oy, &mut sx, &mut sy, &mut runs, &mut rows, name, first, end, points,
     )
 }
 
-pub fn all(start: Score) -> Score {
+pub fn all<R: Print>(rt: &R, start: Score) -> Score {
     let square = [0, 0, 4, 0, 4, 4, 0, 4];
     let with_path = [0, 0, 4, 0, 4, 4, 0, 4, 2, 9];
     let with_spike = [0, 0, 4, 0, 4, 4, 0, 4, 1, 1, 3, 1, 1, 1];
     let rectangle = [62, 0, 188, 0, 188, 100, 62, 100];
-    let one = start.plus(listed(b"listing: ", LISTING, OVER_THE_TOP, &square));
-    let two = one.plus(listed(b"over the top: ", OVER_THE_TOP, OUT_AND_BACK, &with_path));
-    let three = two.plus(listed(b"out and back: ", OUT_AND_BACK, POSITIONS, &with_spike));
-    three.plus(listed(b"positions: ", POSITIONS, CALLS, &rectangle))
+    let one = start.plus(listed(rt, b"listing: ", LISTING, OVER_THE_TOP, &square));
+    let two = one.plus(listed(
+        rt,
+        b"over the top: ",
+        OVER_THE_TOP,
+        OUT_AND_BACK,
+        &with_path,
+    ));
+    let three = two.plus(listed(rt, b"out and back: ", OUT_AND_BACK, POSITIONS, &with_spike));
+    three.plus(listed(rt, b"positions: ", POSITIONS, CALLS, &rectangle))
 }

@@ -1,5 +1,6 @@
 // The known points of the rules that concern locating, each printed as the picture, the point and the library's answer.
 use crate::{said, say};
+use std::io::Print;
 use test_lives::Score;
 
 const FAR: i32 = 1_000_000_000;
@@ -219,24 +220,31 @@ const POINTS: [Known; KNOWN] = [
 ];
 
 // Asks about the first m numbers of a list as a ring.
-fn ask(list: &[i32], m: usize, p: Known, score: Score) -> Score {
+fn ask<R: Print>(rt: &R, list: &[i32], m: usize, p: Known, score: Score) -> Score {
     if list.len() < m {
         return score;
     }
     let both = test_lives::located(&list[0..m], p.x, p.y);
-    say::signed(b" (", p.x);
-    say::signed(b",", p.y);
-    say::text(b"): ");
-    said::both(both);
+    say::signed(rt, b" (", p.x);
+    say::signed(rt, b",", p.y);
+    say::text(rt, b"): ");
+    said::both(rt, both);
     score.with(both)
 }
 
-fn named(name: &[u8; 24], corners: &[i32; 16], m: usize, p: Known, score: Score) -> Score {
-    say::text(name);
-    ask(corners, m, p, score)
+fn named<R: Print>(
+    rt: &R,
+    name: &[u8; 24],
+    corners: &[i32; 16],
+    m: usize,
+    p: Known,
+    score: Score,
+) -> Score {
+    say::text(rt, name);
+    ask(rt, corners, m, p, score)
 }
 
-fn pictured(p: Known, score: Score) -> Score {
+fn pictured<R: Print>(rt: &R, p: Known, score: Score) -> Score {
     let which = p.picture;
     if PICTURED <= which {
         return score;
@@ -244,14 +252,14 @@ fn pictured(p: Known, score: Score) -> Score {
     let picture = PICTURES[which];
     let name = picture.name;
     let corners = picture.corners;
-    named(&name, &corners, picture.m, p, score)
+    named(rt, &name, &corners, picture.m, p, score)
 }
 
-pub fn all() -> Score {
+pub fn all<R: Print>(rt: &R) -> Score {
     let mut score = Score::new();
     let mut k = 0;
     while k < KNOWN {
-        score = pictured(POINTS[k], score);
+        score = pictured(rt, POINTS[k], score);
         k += 1;
     }
     score
@@ -271,14 +279,14 @@ const METRES: [f64; VALUES] = [
     0.1875,
 ];
 
-pub fn lengths(start: Score) -> Score {
+pub fn lengths<R: Print>(rt: &R, start: Score) -> Score {
     let mut score = start;
     let mut k = 0;
     while k < VALUES {
         let both = test_lives::converted(METRES[k]);
-        say::counted(b"metres, value ", k);
-        say::text(b": ");
-        said::both(both);
+        say::counted(rt, b"metres, value ", k);
+        say::text(rt, b": ");
+        said::both(rt, both);
         score = score.with(both);
         k += 1;
     }
@@ -286,7 +294,7 @@ pub fn lengths(start: Score) -> Score {
 }
 
 // The longest ring, which is one place over and over, at that place and beside it; and one vertex more.
-pub fn longest(score: Score) -> Score {
+pub fn longest<R: Print>(rt: &R, score: Score) -> Score {
     let at = Known {
         picture: 0,
         x: 0,
@@ -298,10 +306,10 @@ pub fn longest(score: Score) -> Score {
         y: 2,
     };
     let list = [0i32; 4098];
-    say::text(b"2048 vertices           ");
-    let one = ask(&list, 4096, at, score);
-    say::text(b"2048 vertices           ");
-    let two = ask(&list, 4096, beside, one);
-    say::text(b"2049 vertices           ");
-    ask(&list, 4098, beside, two)
+    say::text(rt, b"2048 vertices           ");
+    let one = ask(rt, &list, 4096, at, score);
+    say::text(rt, b"2048 vertices           ");
+    let two = ask(rt, &list, 4096, beside, one);
+    say::text(rt, b"2049 vertices           ");
+    ask(rt, &list, 4098, beside, two)
 }

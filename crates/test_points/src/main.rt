@@ -14,6 +14,7 @@ mod say;
 ghost use Rattle.std.specs.Prelude.{◌≡◌, length};
 ghost use Rattle.test_cases.specs.Room.{room};
 
+use std::io::Print;
 use test_cases::Kind;
 use test_lives::{Life, Score};
 
@@ -139,39 +140,39 @@ const LIVES: [Lives; SORTS] = [
     },
 ];
 
-fn main() {
+fn main(rt: HostRuntime) {
     let mut seed = SEED;
-    let points = known::lengths(known::longest(known::all()));
-    let made = made_rings(points, &mut seed);
-    let all = made_lives(edits::all(made), &mut seed);
-    say::counted(b"asked ", all.asked);
-    say::counted(b" differ ", all.differ);
-    say::counted(b" digest ", all.digest);
-    say::text(b"\n");
+    let points = known::lengths(&rt, known::longest(&rt, known::all(&rt)));
+    let made = made_rings(&rt, points, &mut seed);
+    let all = made_lives(&rt, edits::all(&rt, made), &mut seed);
+    say::counted(&rt, b"asked ", all.asked);
+    say::counted(&rt, b" differ ", all.differ);
+    say::counted(&rt, b" digest ", all.digest);
+    say::text(&rt, b"\n");
 }
 
 // Prints what came of something, and adds that to all.
-fn added(name: &[u8; 30], score: Score, all: Score) -> Score {
-    said::score(name, score);
+fn added<R: Print>(rt: &R, name: &[u8; 30], score: Score, all: Score) -> Score {
+    said::score(rt, name, score);
     all.plus(score)
 }
 
-fn made_rings(start: Score, seed: &mut usize) -> Score {
+fn made_rings<R: Print>(rt: &R, start: Score, seed: &mut usize) -> Score {
     let mut all = start;
     let mut k = 0;
     while k < KINDS {
-        all = kind(RINGS[k], all, seed);
+        all = kind(rt, RINGS[k], all, seed);
         k += 1;
     }
     all
 }
 
 // Asks about the rings of one kind.
-fn kind(rings: Rings, all: Score, seed: &mut usize) -> Score {
+fn kind<R: Print>(rt: &R, rings: Rings, all: Score, seed: &mut usize) -> Score {
     let mut space = [0i32; test_cases::ROOM];
     let name = rings.name;
     let what = rings.what;
-    added(&name, many(what, rings.times, &mut space, seed), all)
+    added(rt, &name, many(what, rings.times, &mut space, seed), all)
 }
 
 fn many(what: Kind, times: usize, list: &mut [i32], seed: &mut usize) -> Score
@@ -194,18 +195,18 @@ fn one(what: Kind, list: &mut [i32], seed: &mut usize, score: Score) -> Score
     score.with(test_lives::located(&list[0..m], case.x, case.y))
 }
 
-fn made_lives(start: Score, seed: &mut usize) -> Score {
+fn made_lives<R: Print>(rt: &R, start: Score, seed: &mut usize) -> Score {
     let mut all = start;
     let mut k = 0;
     while k < SORTS {
-        all = lived(LIVES[k], all, seed);
+        all = lived(rt, LIVES[k], all, seed);
         k += 1;
     }
     all
 }
 
-fn lived(lives: Lives, all: Score, seed: &mut usize) -> Score {
+fn lived<R: Print>(rt: &R, lives: Lives, all: Score, seed: &mut usize) -> Score {
     let name = lives.name;
     let life = lives.life;
-    added(&name, test_lives::all(life, lives.times, seed), all)
+    added(rt, &name, test_lives::all(life, lives.times, seed), all)
 }

@@ -1,73 +1,74 @@
 // How answers and scores are printed.
 use crate::say;
 use crate::say::{counted, text};
+use std::io::Print;
 use test_lives::answer::{Answer, Both};
 use test_lives::{KINDS, Score, answer};
 
-fn off(a: Answer) {
+fn off<R: Print>(rt: &R, a: Answer) {
     let turned = a.more;
     if turned < answer::CLOCKWISE_EVEN {
-        counted(b"off ", a.number);
+        counted(rt, b"off ", a.number);
     } else {
-        counted(b"off -", a.number);
+        counted(rt, b"off -", a.number);
     }
     if turned % 2 == answer::ODD {
-        text(b" odd");
+        text(rt, b" odd");
     } else {
-        text(b" even");
+        text(rt, b" even");
     }
 }
 
 // The lowest index and the highest, after the word for what has them.
-fn indices(word: &[u8], a: Answer) {
-    counted(word, a.lowest);
-    counted(b" ", a.highest);
+fn indices<R: Print>(rt: &R, word: &[u8], a: Answer) {
+    counted(rt, word, a.lowest);
+    counted(rt, b" ", a.highest);
 }
 
-fn border(word: &[u8], a: Answer) {
-    counted(b"border ", a.number);
-    indices(word, a);
+fn border<R: Print>(rt: &R, word: &[u8], a: Answer) {
+    counted(rt, b"border ", a.number);
+    indices(rt, word, a);
 }
 
-fn several(a: Answer) {
-    counted(b"several ", a.number);
-    counted(b" ", a.more);
+fn several<R: Print>(rt: &R, a: Answer) {
+    counted(rt, b"several ", a.number);
+    counted(rt, b" ", a.more);
 }
 
-fn placed(a: Answer) {
+fn placed<R: Print>(rt: &R, a: Answer) {
     if a.more == 0 {
-        counted(b"millimetre ", a.number);
+        counted(rt, b"millimetre ", a.number);
     } else {
-        counted(b"millimetre -", a.number);
+        counted(rt, b"millimetre -", a.number);
     }
 }
 
-fn told(a: Answer) {
+fn told<R: Print>(rt: &R, a: Answer) {
     let what = a.what;
     match what {
-        answer::VERTEX | answer::VERTICES => indices(b"vertex ", a),
-        answer::EDGE | answer::EDGES => indices(b"edge ", a),
-        answer::FOUNDED => text(b"ok"),
-        answer::SPLIT | answer::MERGED => counted(b"ok ", a.number),
-        answer::BORDER_VERTEX | answer::BORDER_VERTICES => border(b" vertex ", a),
-        answer::BORDER_EDGE | answer::BORDER_EDGES => border(b" edge ", a),
-        answer::ONE => counted(b"one ", a.number),
-        answer::NONE => text(b"none"),
-        answer::PLACED => placed(a),
-        answer::SEVERAL => several(a),
-        answer::REFUSED => counted(b"refused ", a.number),
-        _ => off(a),
+        answer::VERTEX | answer::VERTICES => indices(rt, b"vertex ", a),
+        answer::EDGE | answer::EDGES => indices(rt, b"edge ", a),
+        answer::FOUNDED => text(rt, b"ok"),
+        answer::SPLIT | answer::MERGED => counted(rt, b"ok ", a.number),
+        answer::BORDER_VERTEX | answer::BORDER_VERTICES => border(rt, b" vertex ", a),
+        answer::BORDER_EDGE | answer::BORDER_EDGES => border(rt, b" edge ", a),
+        answer::ONE => counted(rt, b"one ", a.number),
+        answer::NONE => text(rt, b"none"),
+        answer::PLACED => placed(rt, a),
+        answer::SEVERAL => several(rt, a),
+        answer::REFUSED => counted(rt, b"refused ", a.number),
+        _ => off(rt, a),
     }
 }
 
 // The library's answer, and that of the second implementation where they differ in anything.
-pub fn both(b: Both) {
-    told(b.library);
+pub fn both<R: Print>(rt: &R, b: Both) {
+    told(rt, b.library);
     if !b.same() {
-        text(b" BUT the second says ");
-        told(b.second);
+        text(rt, b" BUT the second says ");
+        told(rt, b.second);
     }
-    text(b"\n");
+    text(rt, b"\n");
 }
 
 // What answers are called when they are counted, up to refusals, and how long each name is.
@@ -96,39 +97,39 @@ const LENGTHS: [usize; answer::REFUSED] = [
     9, 11, 7, 8, 9, 11, 14, 10, 9, 9, 16, 18, 14, 15, 6, 7, 10, 9,
 ];
 
-fn named(name: &[u8; 18], m: usize, n: usize) {
-    say::first(name, m);
-    counted(b"", n);
+fn named<R: Print>(rt: &R, name: &[u8; 18], m: usize, n: usize) {
+    say::first(rt, name, m);
+    counted(rt, b"", n);
 }
 
 // How often one kind of answer came.
-fn count(kind: usize, n: usize) {
+fn count<R: Print>(rt: &R, kind: usize, n: usize) {
     if kind < answer::REFUSED {
         let m = LENGTHS[kind];
         let name = NAMES[kind];
-        named(&name, m, n);
+        named(rt, &name, m, n);
     } else {
-        counted(b", refused ", kind - answer::REFUSED);
-        counted(b": ", n);
+        counted(rt, b", refused ", kind - answer::REFUSED);
+        counted(rt, b": ", n);
     }
 }
 
-fn counts(s: Score) {
+fn counts<R: Print>(rt: &R, s: Score) {
     let counts = s.counts;
     let mut kind = 0;
     while kind < KINDS {
         let n = counts[kind];
         if 0 < n {
-            count(kind, n);
+            count(rt, kind, n);
         }
         kind += 1;
     }
 }
 
-pub fn score(name: &[u8], s: Score) {
-    text(name);
-    counted(b" asked ", s.asked);
-    counts(s);
-    counted(b", differ ", s.differ);
-    text(b"\n");
+pub fn score<R: Print>(rt: &R, name: &[u8], s: Score) {
+    text(rt, name);
+    counted(rt, b" asked ", s.asked);
+    counts(rt, s);
+    counted(rt, b", differ ", s.differ);
+    text(rt, b"\n");
 }

@@ -1,26 +1,23 @@
 // What is printed, on standard output. Whether it could be written is not asked.
-use libc::STDOUT_FILENO;
+use std::io::Print;
 
-pub fn text(t: &[u8]) {
-    io::write_all(STDOUT_FILENO, t);
+pub fn text<R: Print>(rt: &R, t: &[u8]) {
+    let _ = rt.write_all(t);
 }
 
 // The first m bytes.
-pub fn first(t: &[u8], m: usize) {
+pub fn first<R: Print>(rt: &R, t: &[u8], m: usize) {
     if m <= t.len() {
-        text(&t[0..m]);
+        text(rt, &t[0..m]);
     }
 }
 
-pub fn counted(before: &[u8], n: usize) {
-    text(before);
-    io::print_decimal(STDOUT_FILENO, n as u64);
+pub fn counted<R: Print>(rt: &R, before: &[u8], n: usize) {
+    text(rt, before);
+    let _ = rt.print(n);
 }
 
-pub fn signed(before: &[u8], x: i32) {
-    text(before);
-    if x < 0 {
-        text(b"-");
-    }
-    io::print_decimal(STDOUT_FILENO, test_second::size(x));
+pub fn signed<R: Print>(rt: &R, before: &[u8], x: i32) {
+    text(rt, before);
+    let _ = rt.print(x);
 }
