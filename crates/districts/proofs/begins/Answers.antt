@@ -4,7 +4,7 @@ use mathlib.Core.Bool.{Bool, true, false, not}
 use mathlib.Core.List.{List}
 use Prim.Native.Nat.{ℕ}
 use lib.Dec.{eqb}
-use borrow.Author.Tests.{eq-eqb, ne_eqb, not-false}
+use borrow.Author.Tests.{eq-eqb, ne_eqb}
 use Rattle.ring.specs.declared.Point.{Point}
 use Rattle.refusals.proofs.Verdicts.{stops_at, passes, passed-all}
 use Rattle.districts.specs.Register.{in_use}
@@ -16,7 +16,7 @@ pub returns-then-not-good : goal.returns-then-not-good
 returns-then-not-good c outline store = sym (stops_at 1 _ _ (ap not c.if-not-good.true))
 
 pub outline_size-requires : goal.outline_size-requires
-outline_size-requires c = c.requires (not-false _ (ap not c.if-not-good.false))
+outline_size-requires c = c.requires c.if-not-good.false
 
 outlined : (outline store : List Point) (runs : List ℕ) (n : ℕ) (b : Bool) → n ≡ outline_size runs → eqb n 0 ≡ b → not (in_use (meaning outline store runs).outline) ≡ b
 outlined outline store runs n b h e = no-outline outline store runs ∙ ap (λ n. eqb n 0) (sym h) ∙ e

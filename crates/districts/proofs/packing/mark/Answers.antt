@@ -9,8 +9,6 @@ use Rattle.districts.proofs.Tests.{both_left, both_right, goes_on}
 use Rattle.districts.proofs.Marks.{marked-with, marked-without}
 use Rattle.districts.proofs.packing.mark.Goals as goal
 
--- the test that passed
-
 pub bounds-starts-place : goal.bounds-starts-place
 bounds-starts-place c =
     let fits : c.first_place-place.result < 2048 = ltb-true _ 2048 (both_right (ltb 0 c.size.result) _ c.if-size-place.true) in
@@ -26,8 +24,6 @@ returns-then-size-place c =
     let u = is-used in
     let used : 0 < size c.args.runs.now c.args.d = omega arith in
     marked-with _ _ _ c.requires.marked _ c.mark_of.ensures used _ c.first_place-place.ensures.0 fits
-
--- the test that failed
 
 pub returns-else-size-place : goal.returns-else-size-place
 returns-else-size-place c =
