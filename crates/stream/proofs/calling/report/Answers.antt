@@ -1,18 +1,10 @@
 -- `stream::calling::report` meets its contract: the answer by the index goes through the tally. Assumes nothing.
 use mathlib.Core.Path.{refl, ap, ◌∙◌}
-use borrow.Author.Rules.{rules}
 use Rattle.tally.specs.Tally.{tallied, answered}
 use Rattle.wording.specs.Lines.{report}
 use Rattle.stream.specs.Replies.{belonging, replied, tallied_by}
 use Rattle.stream.specs.Advancing as Told
 use Rattle.stream.proofs.calling.report.Goals as goal
-
-pub fitted-fit-requires : goal.fitted-fit-requires
-fitted-fit-requires c = record { good_runs = c.requires.good_runs; fitting = c.requires.fitting }
-
-pub assign_listed-requires : goal.assign_listed-requires
-assign_listed-requires c =
-    record { good_runs = c.requires.good_runs; indexed = c.fitted-fit.ensures.1 }
 
 pub returns : goal.returns
 unfolding replied tallied_by

@@ -1,12 +1,7 @@
 -- `stream::calling::split` meets its contract. Assumes nothing.
 use Prim.Native.Nat.{◌*◌}
-use mathlib.Core.Path.{sym}
-use borrow.Author.Rules.{rules}
 use Rattle.stream.proofs.Replying.{splitting-by}
 use Rattle.stream.proofs.calling.split.Goals as goal
-
-pub split_known-requires : goal.split_known-requires
-split_known-requires c = sym c.requires.runs_value
 
 pub returns : goal.returns
 returns c =

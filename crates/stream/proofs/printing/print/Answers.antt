@@ -1,21 +1,15 @@
 -- `stream::printing::print` meets its contract: turn by turn, until a turn ends. Assumes nothing.
-use mathlib.Core.Path.{◌≡◌, refl}
-use lib.ListN.{length}
+use mathlib.Core.Path.{refl}
 use borrow.Author.Rules.{rules}
-use Rattle.districts.specs.Lent.{lent}
-use Rattle.stream.specs.Desks.{desk_of}
-use Rattle.index.specs.Both.{index, Fitting}
-use Rattle.stream.specs.Printing.{Printed}
-use Rattle.stream.proofs.Steps.{remaining, falls}
+use Rattle.stream.proofs.Steps.{falls}
 use Rattle.stream.proofs.Pages.{printed-none, printed-more, ready, onward, stayed}
 use Rattle.stream.proofs.printing.print.Goals as goal
 
 pub loop-p-init : goal.loop-p-init
 loop-p-init c = (printed-none _ _ _ _ _ _ _ c.requires.runs_value, refl, refl, refl, refl, refl, refl, c.requires.fitting)
 
-pub print_record-p-requires : goal.print_record-p-requires
-print_record-p-requires c =
-    record { ready = ready _ _ _ _ _ _ _ _ _ c.loop-p.invariant.0 c.loop-p.invariant.1 c.requires.bytes_bound; fitting = c.loop-p.invariant.7 }
+pub print_record-p-requires-clause-ready : goal.print_record-p-requires-clause-ready
+print_record-p-requires-clause-ready c = ready _ _ _ _ _ _ _ _ _ c.loop-p.invariant.0 c.loop-p.invariant.1 c.requires.bytes_bound
 
 pub loop-p-smaller : goal.loop-p-smaller
 loop-p-smaller c =
@@ -35,6 +29,3 @@ loop-p-preserved c =
       search (rules, held.6),
       c.print_record-p.ensures.1,
     )
-
-pub returns : goal.returns
-returns c = (c.loop-p.invariant.0, c.loop-p-test.false, c.loop-p.invariant.7)

@@ -1,13 +1,11 @@
 -- `stream::printing::print` meets its contract: turn by turn, until a turn ends. Assumes nothing.
-use mathlib.Core.Path.{◌≡◌, refl}
+use mathlib.Core.Path.{◌≡◌}
 use lib.ListN.{length}
-use borrow.Author.Rules.{rules}
 use Rattle.districts.specs.Lent.{lent}
 use Rattle.stream.specs.Desks.{desk_of}
 use Rattle.index.specs.Both.{index, Fitting}
 use Rattle.stream.specs.Printing.{Printed}
-use Rattle.stream.proofs.Steps.{remaining, falls}
-use Rattle.stream.proofs.Pages.{printed-none, printed-more, ready, onward, stayed}
+use Rattle.stream.proofs.Steps.{remaining}
 use Rattle.stream.proofs.printing.print.Given as goal
 
 abbrev pub invariant-loop-p : goal.invariant-loop-p
