@@ -10,8 +10,6 @@ use Rattle.ring.proofs.Vertices.{origin, at-within, length-vertices}
 use Rattle.room.proofs.Written.{reverse-at, writing-none, put-more, writing-all}
 use Rattle.room.proofs.pieces.write_back.Goals as goal
 
--- the path has k points
-
 pub loop-t-init : goal.loop-t-init
 loop-t-init c = (writing-none _ _, refl, refl)
 

@@ -14,7 +14,6 @@ pub loop-i-init : goal.loop-i-init
 loop-i-init c = moved_none c.args.column.now c.args.to c.args.from _
 
 -- the two places of a turn lie within the column
-
 pub overflow_add-column : goal.overflow_add-column
 overflow_add-column c =
     let read-place : c.args.from + c.loop-i.i < length c.args.column.now = omega (arith, c.loop-i-test.true, c.requires) in

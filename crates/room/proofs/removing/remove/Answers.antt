@@ -15,7 +15,6 @@ use Rattle.room.specs.Writing.{closed, Lowered, Left}
 use Rattle.room.proofs.removing.remove.Goals as goal
 
 -- the parts of a list in which a gap of n after f places was closed, t places being in use
-
 module _ {A : Type 0} (store : List A) (f n t : ℕ) (h : f + n ≤ t) (k : t ≤ length store) where
   now : List A
   now = closed store f (f + n) t
@@ -48,7 +47,6 @@ module _ {A : Type 0} (store : List A) (f n t : ℕ) (h : f + n ≤ t) (k : t �
       ∙ take_at middle rest (t - (f + n)) (length-take-le (t - (f + n)) (drop (f + n) store) (omega (arith, length-drop (f + n) store)))
 
 -- both columns closed up are the points closed up
-
 both-closed : (xs ys : List ℤ) (a b c : ℕ) → length xs ≡ length ys → points (closed xs a b c) (closed ys a b c) ≡ closed (points xs ys) a b c
 both-closed xs ys a b c e =
     let front = same-take a xs ys e in
