@@ -14,11 +14,11 @@ use Rattle.ring.specs.Choices.{pick}
 use Rattle.ring.proofs.Pick.{pick_true, pick-false}
 use Rattle.districts.specs.Lent.{written}
 use Rattle.register.specs.declared.Position.TheVariants.{Grid, Fix, Missing}
-use Rattle.history.specs.Histories.{Call, founding, splitting, reporting}
+use Rattle.history.specs.Histories.{Call, founding, splitting, merging, reporting}
 use Rattle.records.specs.declared.Decoded.{Decoded}
-use Rattle.records.specs.declared.Front.TheVariants.{Outline, Split, More, Broken}
+use Rattle.records.specs.declared.Front.TheVariants.{Outline, Split, Merge, More, Broken}
 use Rattle.records.specs.Bytes.{field, signed, signed_fields}
-use Rattle.records.specs.Layout.{Front, whole, more, broken, from, up_to, double, outline_front, split_front, grid_front, fix_front, position_front, by_kind, front}
+use Rattle.records.specs.Layout.{Front, whole, more, broken, from, up_to, double, outline_front, split_front, merge_front, grid_front, fix_front, position_front, by_kind, front}
 use Rattle.records.specs.Decoding.{front_of, Decodes}
 use Rattle.records.proofs.Reading.{signed-long}
 
@@ -45,6 +45,9 @@ short bytes n f h = pick_true (lt-ltb (length bytes) n h) _ _
 
 pub enough : (bytes : List ℕ) (n : ℕ) (f : Front) → n ≤ length bytes → from bytes n f ≡ f
 enough bytes n f h = pick-false (le-ltb (length bytes) n h) _ _
+
+pub announced-many : (n : ℕ) (f : Front) → 2048 < n → pick (ltb 2048 n) broken f ≡ broken
+announced-many n f h = pick_true (lt-ltb 2048 n h) _ _
 
 pub announced-few : (n : ℕ) (f : Front) → n ≤ 2048 → pick (ltb 2048 n) broken f ≡ f
 announced-few n f h = pick-false (le-ltb 2048 n h) _ _
@@ -85,6 +88,11 @@ module _ (bytes : List ℕ) (before after : List ℤ) where
 pub up-to-whole : (bytes : List ℕ) (r : Decoded) (n : ℕ) (c d : Call) (to : List ℤ) → c ≡ d → n ≤ length bytes → Decodes r (whole c n) to to → Decodes r (up_to bytes n d) to to
 up-to-whole bytes r n c d to e there = says r (whole c n) (up_to bytes n d) to to (ap (λ x. whole x n) e ∙ sym (enough bytes n (whole d n) there))
 
+pub merge-whole : (bytes : List ℕ) (to : List ℤ) (A a B b k : ℕ) → A ≡ field bytes 3 1 → a ≡ field bytes 4 2 → B ≡ field bytes 6 1 → b ≡ field bytes 7 2 → k ≡ field bytes 9 2 → 11 ≤ length bytes
+    → Decodes (record { front = Merge A a B b k; taken = 11 }) (merge_front bytes) to to
+merge-whole bytes to A a B b k h_a ha h_b hb hk least =
+    up-to-whole bytes _ 11 (merging A a B b k) _ to (λ s. merging (h_a s) (ha s) (h_b s) (hb s) (hk s)) least (record { said = refl; counted = refl; left = refl })
+
 pub grid-whole : (bytes : List ℕ) (to : List ℤ) (r : Decoded) (at : ℕ) (x y : ℤ) → x ≡ signed (field bytes at 4) → y ≡ signed (field bytes (at + 4) 4) → at + 8 ≤ length bytes
     → Decodes r (whole (reporting (field bytes 3 4) (Grid x y)) (at + 8)) to to → Decodes r (grid_front bytes at) to to
 grid-whole bytes to r at x y hx hy = up-to-whole bytes r (at + 8) _ _ to (λ s. reporting (field bytes 3 4) (Grid (hx s) (hy s)))
@@ -121,3 +129,6 @@ by_what what bytes =
 
 pub what-told : (bytes : List ℕ) (w : ℕ) → 8 ≤ length bytes → w ≡ field bytes 7 1 → by_what w bytes ≡ position_front bytes
 what-told bytes w there e = ap (λ v. by_what v bytes) e ∙ sym (enough bytes 8 _ there)
+
+pub unknown-what : (bytes : List ℕ) (w : ℕ) → (w ≡ 0 → ⊥) → (w ≡ 1 → ⊥) → (w ≡ 2 → ⊥) → by_what w bytes ≡ broken
+unknown-what bytes w a b c = pick-false (ne_eqb w 0 a) _ _ ∙ pick-false (ne_eqb w 1 b) _ _ ∙ pick-false (ne_eqb w 2 c) _ _

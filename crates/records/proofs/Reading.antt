@@ -1,13 +1,19 @@
 -- Fields as the code puts them together, and signed numbers one after the other. Assumes nothing.
-use Prim.Native.Nat.{ℕ, zero, suc, ◌+◌, ◌*◌, ◌^◌, ◌≤◌, ◌<◌}
+use Prim.Native.Nat.{ℕ, zero, suc, ◌+◌, ◌*◌, ◌-◌, ◌^◌, ◌≤◌, ◌<◌}
 use native.Mathlib.Nat.{zero-add, suc-add, pow-succ'}
 use native.Mathlib.Numerals.{add-one}
 use native.Mathlib.Omega.{arith}
 use mathlib.Core.Path.{◌≡◌, refl, sym, ap, ◌∙◌}
+use mathlib.Core.Bool.{cond}
 use mathlib.Core.List.{List, [], ◌∷◌, ◌++◌}
-use lib.IntN.{ℤ, pos}
+use lib.IntN.{ℤ, pos, negsuc, ◌-ℤ◌}
 use lib.ListN.{length, get_or, take, drop, set, length-set, length-drop}
-use lib.Seq.{drop-cons, drop-drop, paste, paste-suc, take-length}
+use lib.Seq.{drop-cons, drop-drop, paste, paste-zero, paste-suc, take-length}
+use borrow.Author.Tests.{lt-ltb, le-ltb}
+use mir.Syntax.{w32, w64}
+use mir.Val.{to_z}
+use mir.Facts.{to_z_pos}
+use Rattle.ring.proofs.Pick.{pick_true, pick-false}
 use Rattle.districts.specs.Lent.{written}
 use Rattle.records.specs.Bytes.{little_endian, field, signed, signed_fields}
 
@@ -32,7 +38,21 @@ in_two (suc w) v (b ∷ l) h =
 pub twice-as-long : (bytes : List ℕ) (at w : ℕ) → at + 2 * w ≤ length bytes → field bytes at (w + w) ≡ field bytes at w + 256 ^ w * field bytes (at + w) w
 twice-as-long bytes at w h = in_two w w (drop at bytes) (omega (arith, length-drop at bytes)) ∙ ap (λ l. field bytes at w + 256 ^ w * little_endian (take w l)) (drop-drop w at bytes)
 
--- ---- signed numbers, one after the other
+-- ---- signed
+
+pub lower-half : (n : ℕ) → n < 2147483648 → to_z w32 n ≡ signed n
+lower-half n h = to_z_pos w32 h ∙ sym (pick_true (lt-ltb n 2147483648 h) _ _)
+
+pub upper-half : (n : ℕ) → 2147483648 ≤ n → signed n ≡ negsuc (4294967295 - n)
+upper-half n h = pick-false (le-ltb n 2147483648 h) _ _
+
+less-all : (n : ℕ) → n < 4294967296 → pos n -ℤ pos 4294967296 ≡ negsuc (4294967295 - n)
+less-all n h = ap (λ b. cond b (negsuc (4294967296 - suc n)) (pos (n - 4294967296))) (lt-ltb n 4294967296 h) ∙ ap negsuc (let e : 4294967296 - suc n ≡ 4294967295 - n = omega arith in e)
+
+pub taken-down : (n : ℕ) → n < 4294967296 → to_z w64 n -ℤ pos 4294967296 ≡ negsuc (4294967295 - n)
+taken-down n h = ap (λ z. z -ℤ pos 4294967296) (let f : to_z w64 n ≡ pos n = to_z_pos w64 (let h : n < 2 ^ 63 = omega arith in h) in f) ∙ less-all n h
+
+-- ---- one after the other
 
 pub signed-long : (bytes : List ℕ) (at m : ℕ) → length (signed_fields bytes at m) ≡ m
 unfolding signed_fields
@@ -49,6 +69,9 @@ pub record Read (bytes : List ℕ) (at m : ℕ) (to₀ to : List ℤ) (k : ℕ) 
   pub le : k ≤ m
   pub long : length to ≡ length to₀
   pub so_far : to ≡ paste to₀ 0 (signed_fields bytes at m) k
+
+pub read_none : (bytes : List ℕ) (at m : ℕ) (to : List ℤ) → Read bytes at m to to 0
+read_none bytes at m to = record { le = omega arith; long = refl; so_far = paste-zero to 0 (signed_fields bytes at m) }
 
 pub read_more : (bytes : List ℕ) (at m : ℕ) (to₀ to : List ℤ) (k : ℕ) (v : ℤ) → m ≤ length to₀ → k < m → v ≡ signed (field bytes (at + 4 * k) 4) → Read bytes at m to₀ to k → Read bytes at m to₀ (set to k v) (k + 1)
 read_more bytes at m to₀ to k v room h e r = record {
