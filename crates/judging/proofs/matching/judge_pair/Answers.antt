@@ -19,15 +19,11 @@ use Rattle.refusals.proofs.Verdicts.{refused-by, left-to}
 use Rattle.judging.specs.Judging.{border_tests}
 use Rattle.judging.proofs.matching.judge_pair.Goals as goal
 
--- whether the numbers are in use is told by their sizes
-
 -- a number in use is below 64 and has vertices
-
 some : (runs : List ℕ) (d : ℕ) (r : Bool) → (r ≡ not (eqb (size runs d) 0)) × (r ≡ true → d < 64) → not r ≡ false → (d < 64) × (size runs d ≡ 0 → ⊥)
 some runs d r e f = (e.1 (not-false r f), eqb-false (size runs d) 0 (not-true (eqb (size runs d) 0) (sym e.0 ∙ not-false r f)))
 
 -- how long a part is as the code cuts it, and the ring that the parts of both columns are
-
 cut-long : (l : List ℤ) (f n : ℕ) → f + n ≤ length l → length (take (f + n - f) (drop f l)) ≡ n
 cut-long l f n h = ap length (cut l f n) ∙ part_length l f n h
 
@@ -78,7 +74,6 @@ size-requires-2 c =
     record { runs_len = runs-long; d_bound = (gone).0 }
 
 -- both runs lie within the columns
-
 pub judge_border-requires : goal.judge_border-requires
 judge_border-requires c =
     let kept : (c.args.kept < 64) × (size c.args.runs.now c.args.kept ≡ 0 → ⊥) = some c.args.runs.now c.args.kept _ c.in_use.ensures (neither_left _ _ c.if-in_use.false) in

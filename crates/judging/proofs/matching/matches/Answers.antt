@@ -3,10 +3,9 @@ use Prim.Native.Nat.{ℕ, ◌+◌, ◌≤◌}
 use native.Mathlib.Decide.{dec_lt}
 use native.Mathlib.Omega.{arith}
 use mathlib.Core.Path.{◌≡◌, sym, ap, ◌∙◌}
-use mathlib.Core.Bool.{not, true}
+use mathlib.Core.Bool.{true}
 use mathlib.Core.List.{List}
 use lib.ListN.{length}
-use borrow.Author.Tests.{not-true, not-false}
 use Rattle.ring.specs.declared.Point.{Point}
 use Rattle.ring.specs.Columns.{points}
 use Rattle.ring.proofs.Columns.{length-points}
@@ -15,7 +14,6 @@ use Rattle.judging.proofs.matching.matches.Invariants.{Met}
 use Rattle.judging.proofs.matching.matches.Goals as goal
 
 -- one point more
-
 met-more : (P : List Point) (a : ℕ) (Q : List Point) (b m k t : ℕ) → t ≤ k → meets_at P a Q b m t ≡ true → Met P a Q b m k t → Met P a Q b m k (t + 1)
 met-more P a Q b m k t h e met = record {
   most = omega arith;
@@ -33,12 +31,12 @@ loop-t-init c = record { most = omega arith; each = λ s h. absurd (let f : ⊥ 
 pub returns-then-not-meets : goal.returns-then-not-meets
 returns-then-not-meets c =
     let a = c.args in
-    match-fails (points a.xs.now a.ys.now) a.a (points a.us.now a.vs.now) a.b (length a.us.now) a.k (length-points a.us.now a.vs.now c.requires.cases_2.even) c.loop-t.t (omega (arith, c.loop-t-test.true)) (sym c.meets.ensures ∙ not-true _ (ap not c.if-not-meets.true))
+    match-fails (points a.xs.now a.ys.now) a.a (points a.us.now a.vs.now) a.b (length a.us.now) a.k (length-points a.us.now a.vs.now c.requires.cases_2.even) c.loop-t.t (omega (arith, c.loop-t-test.true)) (sym c.meets.ensures ∙ c.if-not-meets.true)
 
 pub loop-t-preserved : goal.loop-t-preserved
 loop-t-preserved c =
     let a = c.args in
-    met-more (points a.xs.now a.ys.now) a.a (points a.us.now a.vs.now) a.b (length a.us.now) a.k c.loop-t.t (omega (arith, c.loop-t-test.true)) (sym c.meets.ensures ∙ not-false _ (ap not c.if-not-meets.false)) c.loop-t.invariant
+    met-more (points a.xs.now a.ys.now) a.a (points a.us.now a.vs.now) a.b (length a.us.now) a.k c.loop-t.t (omega (arith, c.loop-t-test.true)) (sym c.meets.ensures ∙ c.if-not-meets.false) c.loop-t.invariant
 
 pub returns : goal.returns
 returns c =

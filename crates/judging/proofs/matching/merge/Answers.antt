@@ -9,8 +9,6 @@ use Rattle.districts.proofs.Sound.{runs-length}
 use Rattle.districts.proofs.Begun.{begins-so, begun-formed, begun-passed, begun-refused}
 use Rattle.judging.proofs.matching.merge.Goals as goal
 
--- the two tests with which the call begins, of the lists that were lent
-
 pub begins-requires : goal.begins-requires
 begins-requires c good =
     let lists : Lists = lent c.args.ox.now c.args.oy.now c.args.sx.now c.args.sy.now c.args.runs.now in

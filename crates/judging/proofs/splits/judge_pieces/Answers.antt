@@ -13,7 +13,6 @@ use Rattle.refusals.proofs.Verdicts.{refused-by, left-to, passed-all}
 use Rattle.judging.proofs.splits.judge_pieces.Goals as goal
 
 -- the two pieces' vertices are counted as the table counts them
-
 few : (n i j k : ℕ) {r s : ℕ} → r ≡ steps n i j → s ≡ steps n j i → (ltb (1 + r + k) 3 || ltb (1 + s + k) 3) ≡ (ltb (suc (steps n i j) + k) 3 || ltb (suc (steps n j i) + k) 3)
 few n i j k e f = λ t. ltb (counted e t) 3 || ltb (counted f t) 3
   where

@@ -21,7 +21,6 @@ returns-then-size-eq0 c =
     (sym (lowest-first (free runs) 64 d c.loop-d.invariant.below c.loop-d-test.true empty), omega (arith, c.loop-d.invariant.most))
 
 -- one number more is in use
-
 used-more : (runs : List ℕ) (d : ℕ) → d < 64 → (size runs d ≡ 0 → ⊥) → Used runs d → Used runs (d + 1)
 used-more runs d h some u = record {
   most = omega arith;

@@ -8,8 +8,6 @@ use Rattle.districts.proofs.Begun.{begins-so, begun-formed, begun-passed, begun-
 use Rattle.judging.proofs.Judged.{tests-are}
 use Rattle.judging.proofs.splits.split.Goals as goal
 
--- the two tests with which the call begins, of the lists that were lent
-
 pub begins-requires : goal.begins-requires
 begins-requires c good =
     let lists : Lists = lent c.args.ox.now c.args.oy.now c.args.sx.now c.args.sy.now c.args.runs.now in
