@@ -52,7 +52,7 @@ returns-then-some_beyond_short-beyond c =
     let few : (6 ≤ length c.args.ring.now) × (length c.args.ring.now ≤ 33) = (omega (arith, c.if-m-lt-LEAST_SHORT.false), omega (arith, c.if-m-gt-MOST_SHORT.false)) in
     let a-ring : no_ring_of c.args.ring.now c.args.x c.args.y ≡ false = let m = length c.args.ring.now in
     let (least, most) = few in
-    (λ i. ne_eqb (m % 2) 1 (λ e. omega (arith, c.if-m-eq1.false)) i || (le-ltb (m / 2) 3 (omega arith) i || le-ltb 2048 (m / 2) (omega arith) i)) in
+    (λ i. ne_eqb (m % 2) 1 (λ e. omega arith) i || (le-ltb (m / 2) 3 (omega arith) i || le-ltb 2048 (m / 2) (omega arith) i)) in
     let tested : beyond_of c.args.ring.now c.args.x c.args.y ≡ (c.some_beyond_short.result || (c.beyond.result || c.beyond-2.result)) = tested-beyond c.args.ring.now c.args.x c.args.y c.ranges.x c.ranges.y c.some_beyond_short.ensures c.beyond.ensures c.beyond-2.ensures in
     located-beyond c.args.ring.now c.args.x c.args.y a-ring (tested ∙ c.if-some_beyond_short-beyond.true)
 
@@ -68,7 +68,7 @@ each-c-requires c =
     let few : (6 ≤ length c.args.ring.now) × (length c.args.ring.now ≤ 33) = (omega (arith, c.if-m-lt-LEAST_SHORT.false), omega (arith, c.if-m-gt-MOST_SHORT.false)) in
     let a-ring : no_ring_of c.args.ring.now c.args.x c.args.y ≡ false = let m = length c.args.ring.now in
     let (least, most) = few in
-    (λ i. ne_eqb (m % 2) 1 (λ e. omega (arith, c.if-m-eq1.false)) i || (le-ltb (m / 2) 3 (omega arith) i || le-ltb 2048 (m / 2) (omega arith) i)) in
+    (λ i. ne_eqb (m % 2) 1 (λ e. omega arith) i || (le-ltb (m / 2) 3 (omega arith) i || le-ltb 2048 (m / 2) (omega arith) i)) in
     let tested : beyond_of c.args.ring.now c.args.x c.args.y ≡ (c.some_beyond_short.result || (c.beyond.result || c.beyond-2.result)) = tested-beyond c.args.ring.now c.args.x c.args.y c.ranges.x c.ranges.y c.some_beyond_short.ensures c.beyond.ensures c.beyond-2.ensures in
     let ready : Ready c.args.ring.now (length c.args.ring.now / 2) (point c.args.x c.args.y) = asked-ready c.args.ring.now c.args.x c.args.y a-ring (tested ∙ c.if-some_beyond_short-beyond.false) in
     let xs = c.args.ring.now in
@@ -84,7 +84,7 @@ find-requires c =
     let few : (6 ≤ length c.args.ring.now) × (length c.args.ring.now ≤ 33) = (omega (arith, c.if-m-lt-LEAST_SHORT.false), omega (arith, c.if-m-gt-MOST_SHORT.false)) in
     let a-ring : no_ring_of c.args.ring.now c.args.x c.args.y ≡ false = let m = length c.args.ring.now in
     let (least, most) = few in
-    (λ i. ne_eqb (m % 2) 1 (λ e. omega (arith, c.if-m-eq1.false)) i || (le-ltb (m / 2) 3 (omega arith) i || le-ltb 2048 (m / 2) (omega arith) i)) in
+    (λ i. ne_eqb (m % 2) 1 (λ e. omega arith) i || (le-ltb (m / 2) 3 (omega arith) i || le-ltb 2048 (m / 2) (omega arith) i)) in
     let tested : beyond_of c.args.ring.now c.args.x c.args.y ≡ (c.some_beyond_short.result || (c.beyond.result || c.beyond-2.result)) = tested-beyond c.args.ring.now c.args.x c.args.y c.ranges.x c.ranges.y c.some_beyond_short.ensures c.beyond.ensures c.beyond-2.ensures in
     let ready : Ready c.args.ring.now (length c.args.ring.now / 2) (point c.args.x c.args.y) = asked-ready c.args.ring.now c.args.x c.args.y a-ring (tested ∙ c.if-some_beyond_short-beyond.false) in
     let xs = c.args.ring.now in
@@ -98,7 +98,7 @@ returns-then-c-eq0 c =
     let few : (6 ≤ length c.args.ring.now) × (length c.args.ring.now ≤ 33) = (omega (arith, c.if-m-lt-LEAST_SHORT.false), omega (arith, c.if-m-gt-MOST_SHORT.false)) in
     let a-ring : no_ring_of c.args.ring.now c.args.x c.args.y ≡ false = let m = length c.args.ring.now in
     let (least, most) = few in
-    (λ i. ne_eqb (m % 2) 1 (λ e. omega (arith, c.if-m-eq1.false)) i || (le-ltb (m / 2) 3 (omega arith) i || le-ltb 2048 (m / 2) (omega arith) i)) in
+    (λ i. ne_eqb (m % 2) 1 (λ e. omega arith) i || (le-ltb (m / 2) 3 (omega arith) i || le-ltb 2048 (m / 2) (omega arith) i)) in
     let tested : beyond_of c.args.ring.now c.args.x c.args.y ≡ (c.some_beyond_short.result || (c.beyond.result || c.beyond-2.result)) = tested-beyond c.args.ring.now c.args.x c.args.y c.ranges.x c.ranges.y c.some_beyond_short.ensures c.beyond.ensures c.beyond-2.ensures in
     let ready : Ready c.args.ring.now (length c.args.ring.now / 2) (point c.args.x c.args.y) = asked-ready c.args.ring.now c.args.x c.args.y a-ring (tested ∙ c.if-some_beyond_short-beyond.false) in
     let accepted : located_on (vertices c.args.ring.now) (point c.args.x c.args.y) ≡ located c.args.ring.now c.args.x c.args.y = located-on c.args.ring.now c.args.x c.args.y a-ring (tested ∙ c.if-some_beyond_short-beyond.false) in
@@ -115,7 +115,7 @@ returns c =
     let few : (6 ≤ length c.args.ring.now) × (length c.args.ring.now ≤ 33) = (omega (arith, c.if-m-lt-LEAST_SHORT.false), omega (arith, c.if-m-gt-MOST_SHORT.false)) in
     let a-ring : no_ring_of c.args.ring.now c.args.x c.args.y ≡ false = let m = length c.args.ring.now in
     let (least, most) = few in
-    (λ i. ne_eqb (m % 2) 1 (λ e. omega (arith, c.if-m-eq1.false)) i || (le-ltb (m / 2) 3 (omega arith) i || le-ltb 2048 (m / 2) (omega arith) i)) in
+    (λ i. ne_eqb (m % 2) 1 (λ e. omega arith) i || (le-ltb (m / 2) 3 (omega arith) i || le-ltb 2048 (m / 2) (omega arith) i)) in
     let tested : beyond_of c.args.ring.now c.args.x c.args.y ≡ (c.some_beyond_short.result || (c.beyond.result || c.beyond-2.result)) = tested-beyond c.args.ring.now c.args.x c.args.y c.ranges.x c.ranges.y c.some_beyond_short.ensures c.beyond.ensures c.beyond-2.ensures in
     let accepted : located_on (vertices c.args.ring.now) (point c.args.x c.args.y) ≡ located c.args.ring.now c.args.x c.args.y = located-on c.args.ring.now c.args.x c.args.y a-ring (tested ∙ c.if-some_beyond_short-beyond.false) in
     c.off.ensures ∙ clear-off (vertices c.args.ring.now) (point c.args.x c.args.y) c.each-c.result counted (omega (arith, c.if-c-eq0.false)) ∙ accepted
