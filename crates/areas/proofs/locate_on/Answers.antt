@@ -31,8 +31,6 @@ returns-in-On c =
     let read : let a = c.args in let l = c.loop-k in Read a.xs.now a.ys.now a.sizes.now a.r l.about.0 l.at l.k c.wide-n.result = record { ready = c.requires; past = c.loop-k.invariant; low = omega (arith, c.loop-k-test.true); here = c.wide-n.ensures.0 } in
     past-on read c.if-n-eq0.false _ _ (sym c.next_ring.ensures ∙ ap lie_of c.in-On.is)
 
--- the rings passed fit the columns
-
 pub overflow_add-at : goal.overflow_add-at
 overflow_add-at c =
     let read : let a = c.args in let l = c.loop-k in Read a.xs.now a.ys.now a.sizes.now a.r l.about.0 l.at l.k c.wide-n.result = record { ready = c.requires; past = c.loop-k.invariant; low = omega (arith, c.loop-k-test.true); here = c.wide-n.ensures.0 } in

@@ -11,8 +11,6 @@ use Rattle.columns.specs.Walk.{Ready}
 use Rattle.ring.proofs.Columns.{length-points}
 use Rattle.columns.proofs.locate_on.Goals as goal
 
--- the parts of the columns that are all of them
-
 pub find-requires : goal.find-requires
 find-requires c =
     let whole-x : let xs = c.args.xs.now in take (length xs - 0) xs ≡ xs = let xs = c.args.xs.now in part-whole xs (length xs) (le_refl (length xs)) in

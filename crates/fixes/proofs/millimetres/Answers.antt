@@ -20,8 +20,6 @@ both true true e = (refl, refl)
 both true false e = absurd (subst T e tt)
 both false b e = absurd (subst T e tt)
 
--- what is asked of the two values, as the code has it and as the definition has it
-
 pub returns-then-not-finite : goal.returns-then-not-finite
 returns-then-not-finite c =
     let finite-both : not (c.finite.result && c.finite-2.result) ≡ not (finite c.args.fix.easting && finite c.args.fix.northing) = λ i. not (c.finite.ensures i && c.finite-2.ensures i) in
@@ -38,8 +36,6 @@ nearest-y-requires c =
     let finite-both : not (c.finite.result && c.finite-2.result) ≡ not (finite c.args.fix.easting && finite c.args.fix.northing) = λ i. not (c.finite.ensures i && c.finite-2.ensures i) in
     let passed : not (finite c.args.fix.easting && finite c.args.fix.northing) ≡ false = sym finite-both ∙ (ap not c.if-not-finite.false) in
     (both (finite c.args.fix.easting) (finite c.args.fix.northing) passed).1
-
--- what stands for a value's millimetres is asked in their place, and where it is on the grid, it is they
 
 far-alike : (b : Bool) (v : ℤ) (x : Float) → SFits w32 v → StandsFor v x → b ≡ beyond (to_z w32 (of_z w32 v)) → b ≡ beyond (exactly x)
 far-alike b v x f s e = e ∙ ap beyond (to_z-of_z f) ∙ s.far

@@ -13,8 +13,6 @@ use Rattle.launchramp.proofs.last_lines.Goals as goal
 pub returns-then-d : goal.returns-then-d
 returns-then-d c = failed-opens c.args.d _ c.if-d.true
 
--- the line of a broken record leaves room for another
-
 pub slice_bounds-end_line-count : goal.slice_bounds-end_line-count
 slice_bounds-end_line-count c =
     let short : c.broken_line-n.result < room = let d = c.args.d in

@@ -11,8 +11,6 @@ use Rattle.launchramp.proofs.shift.Goals as goal
 pub loop-k-init : goal.loop-k-init
 loop-k-init c = moved_none c.args.input.now 0 c.args.at c.args.n
 
--- the place that is read lies within the buffer
-
 pub overflow_add-input : goal.overflow_add-input
 overflow_add-input c =
     let place : c.args.at + c.loop-k.k < length c.args.input.now = omega (arith, c.loop-k-test.true, c.requires) in

@@ -31,21 +31,15 @@ pub returns-then-m-lt-LEAST_SHORT : goal.returns-then-m-lt-LEAST_SHORT
 returns-then-m-lt-LEAST_SHORT c =
     c.locate_long-then-m-lt-LEAST_SHORT.ensures ∙ (λ i. located (whole c.args.ring.now i) (to_z-of_z c.ranges.x i) (to_z-of_z c.ranges.y i))
 
--- the list has as many numbers as a short ring
-
 pub returns-then-m-eq1 : goal.returns-then-m-eq1
 returns-then-m-eq1 c =
     let m = length c.args.ring.now in
     located-no-ring c.args.ring.now c.args.x c.args.y (ap (λ (b : Bool). b || (ltb (m / 2) 3 || ltb 2048 (m / 2))) (eq-eqb (m % 2) 1 (omega (arith, c.if-m-eq1.true))))
 
--- the list makes a ring
-
 pub some_beyond_short-requires : goal.some_beyond_short-requires
 some_beyond_short-requires c =
     let few : (6 ≤ length c.args.ring.now) × (length c.args.ring.now ≤ 33) = (omega (arith, c.if-m-lt-LEAST_SHORT.false), omega (arith, c.if-m-gt-MOST_SHORT.false)) in
     omega (arith, (few).0)
-
--- the third test is the rules'
 
 pub returns-then-some_beyond_short-beyond : goal.returns-then-some_beyond_short-beyond
 returns-then-some_beyond_short-beyond c =
@@ -55,12 +49,6 @@ returns-then-some_beyond_short-beyond c =
     (λ i. ne_eqb (m % 2) 1 (λ e. omega arith) i || (le-ltb (m / 2) 3 (omega arith) i || le-ltb 2048 (m / 2) (omega arith) i)) in
     let tested : beyond_of c.args.ring.now c.args.x c.args.y ≡ (c.some_beyond_short.result || (c.beyond.result || c.beyond-2.result)) = tested-beyond c.args.ring.now c.args.x c.args.y c.ranges.x c.ranges.y c.some_beyond_short.ensures c.beyond.ensures c.beyond-2.ensures in
     located-beyond c.args.ring.now c.args.x c.args.y a-ring (tested ∙ c.if-some_beyond_short-beyond.true)
-
--- what is left is a ring and a point of the grid
-
--- and where the point lies is the answer
-
--- the wide point
 
 pub each-c-requires : goal.each-c-requires
 each-c-requires c =
@@ -73,10 +61,6 @@ each-c-requires c =
     let ready : Ready c.args.ring.now (length c.args.ring.now / 2) (point c.args.x c.args.y) = asked-ready c.args.ring.now c.args.x c.args.y a-ring (tested ∙ c.if-some_beyond_short-beyond.false) in
     let xs = c.args.ring.now in
     subst (Ready xs (length xs / 2)) (sym there) ready
-
--- the count is that of the point
-
--- the same point again
 
 pub find-requires : goal.find-requires
 find-requires c =

@@ -12,10 +12,6 @@ returns-then-no_ring c =
     let a = c.args in
     located-no-ring a.ring.now a.r.x a.r.y (sym c.no_ring.ensures ∙ c.if-no_ring.true)
 
--- the first test is the rules'
-
--- and so is the second
-
 pub returns-then-some_beyond-beyond : goal.returns-then-some_beyond-beyond
 returns-then-some_beyond-beyond c =
     let a-ring : no_ring_of c.args.ring.now c.args.r.x c.args.r.y ≡ false = sym c.no_ring.ensures ∙ c.if-no_ring.false in

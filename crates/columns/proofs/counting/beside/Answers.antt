@@ -15,8 +15,6 @@ use Rattle.ring.proofs.Walks.{Tells, tells_none, tells_more}
 use Rattle.columns.specs.Walk.{Beside, over, under}
 use Rattle.columns.proofs.counting.beside.Goals as goal
 
--- both tests have told of all
-
 told-beside : (column : List ℤ) (v : ℤ) (i k m : ℕ) → k < m → (a b : Bool) → Tells a (λ j. lt_z v (get_or column (i + j) (pos 0))) m → Tells b (λ j. lt_z (get_or column (i + j) (pos 0)) v) m → (a || b) ≡ true → Beside column v i k
 told-beside column v i k m h true b p q e = over (λ j l. p refl j (omega arith))
 told-beside column v i k m h false b p q e = under (λ j l. q e j (omega arith))

@@ -10,8 +10,6 @@ use Rattle.columns.specs.Walk.{Clean}
 use Rattle.ring.proofs.Walks.{counts_past}
 use Rattle.columns.proofs.counting.block.Goals as goal
 
--- the list and the wide point may be handed on
-
 pub seen-requires : goal.seen-requires
 seen-requires c =
     let clean : Clean c.args.xs.now c.args.ys.now (head_of c.wide-w.result) = subst (Clean c.args.xs.now c.args.ys.now) (sym c.wide-w.ensures) c.requires.clean in

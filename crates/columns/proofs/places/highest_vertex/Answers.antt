@@ -15,10 +15,6 @@ loop-left-init c = (le_refl _, refl)
 pub vertex-requires : goal.vertex-requires
 vertex-requires c = (omega (arith, c.loop-left-test.true, c.loop-left.invariant.0), c.requires.clean.even)
 
--- the test was of the last vertex that is left
-
--- so many are left as the index of that one and one more
-
 pub returns-then-same : goal.returns-then-same
 returns-then-same c =
     let tested : at_vertex (points c.args.xs.now c.args.ys.now) c.args.r (c.loop-left.left - 1) ≡ c.same.result = sym (c.same.ensures ∙ ap (same c.args.r) c.vertex.ensures) in

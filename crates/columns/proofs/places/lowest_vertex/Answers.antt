@@ -13,8 +13,6 @@ loop-v-init c = unmet-none _
 pub vertex-requires : goal.vertex-requires
 vertex-requires c = (c.loop-v-test.true, c.requires.clean.even)
 
--- the test was of vertex v
-
 pub returns-then-same : goal.returns-then-same
 returns-then-same c =
     let tested : at_vertex (points c.args.xs.now c.args.ys.now) c.args.r c.loop-v.v ≡ c.same.result = sym (c.same.ensures ∙ ap (same c.args.r) c.vertex.ensures) in

@@ -12,8 +12,6 @@ use Rattle.columns.proofs.Scans.{only_one}
 use Rattle.columns.proofs.Pairs.{counted-twice}
 use Rattle.columns.proofs.rows.scanned.Goals as goal
 
--- the columns and the wide point may be handed on
-
 pub to-requires : goal.to-requires
 to-requires c =
     let crossed : Twice c.scan-s.result = c.twice.ensures c.if-twice.true in

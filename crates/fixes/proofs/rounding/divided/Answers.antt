@@ -15,8 +15,6 @@ less-than-half n d h g =
     let rest : n % d ≡ n = mod-eq_of_lt (omega arith) in
     pick_true (lt-ltb (2 * (n % d)) d (omega arith)) _ _ ∙ div-eq_of_lt (omega arith)
 
--- what the shift makes
-
 pub returns-then-s-ge-WIDTH : goal.returns-then-s-ge-WIDTH
 returns-then-s-ge-WIDTH c = sym (less-than-half c.args.n _ c.requires (pow_mono c.if-s-ge-WIDTH.true))
 

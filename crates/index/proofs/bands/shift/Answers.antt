@@ -6,8 +6,6 @@ use mathlib.Core.Path.{◌≡◌, ap}
 use lib.Pow.{shr_lt}
 use Rattle.index.proofs.bands.shift.Goals as goal
 
--- a shift that leaves 64 bands or more is less than 32
-
 small : (n s : ℕ) → n < 2 ^ 32 → s ≤ 32 → 64 ≤ n / 2 ^ s → s < 32
 small n s h l many = elim (dec_lt s 32) [
   | yes less ↦ less

@@ -13,8 +13,6 @@ use Rattle.index.proofs.Order.{le_trans}
 use Rattle.index.proofs.Halves.{low_half, high_half}
 use Rattle.index.proofs.bands.spanning.Goals as goal
 
--- the lowest is not above the highest
-
 pub far-requires : goal.far-requires
 far-requires c =
     let order : le_z c.lowest-low.result.0 c.highest-high.result.0 ≡ true = let bounds = c.args.bounds.now in

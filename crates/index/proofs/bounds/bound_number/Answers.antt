@@ -20,10 +20,6 @@ returns-then-n-eq0 c =
     subst (Bounded a.column.now a.runs.now (a.d + 1)) (sym c.put.ensures)
     (bounded-more a.column.now a.runs.now a.d a.bounds.now _ _ c.requires.bounded c.requires.d_bound (λ u. absurd (none u)) (λ u. absurd (none u)) (le_refl (to_z w32 (of_z w32 (get_or a.column.now 0 (pos 0))))))
 
--- the number is used, and its run lies within the column
-
--- the part that is handed on is the run
-
 pub lowest-requires : goal.lowest-requires
 lowest-requires c =
     let used : 0 < size c.args.runs.now c.args.d = omega (arith, c.if-n-eq0.false, c.size-n.ensures.0) in

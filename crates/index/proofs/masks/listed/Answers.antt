@@ -22,8 +22,6 @@ returns-then-v-a c =
     let h : SFits w32 a.a.high = search rules in
     sym (pick_true (simp (to_z-of_z f, to_z-of_z g, to_z-of_z h) at c.if-v-a.true) _ _)
 
--- the number is on the axis
-
 pub band-requires : goal.band-requires
 band-requires c =
     let beyond : let a = c.args in (lt_z a.v.0 a.a.low || lt_z a.a.high a.v.0) ≡ false = let a = c.args in

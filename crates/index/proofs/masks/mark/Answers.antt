@@ -15,10 +15,6 @@ use Rattle.index.proofs.Bits.{or-keeps, or-adds, power-bit}
 use Rattle.index.proofs.masks.mark.Invariants.{Wider}
 use Rattle.index.proofs.masks.mark.Goals as goal
 
--- what is so of the bands below b
-
--- one band more
-
 module _ (before : List ℕ) (d from b : ℕ) (after : List ℕ) (w : Wider before d from b after) (h : b < length after) where
   abbrev mask : ℕ
   mask = bit_or (get_or after b 0) (2 ^ d)
@@ -47,8 +43,6 @@ module _ (before : List ℕ) (d from b : ℕ) (after : List ℕ) (w : Wider befo
       | no other ↦ stays c d (w.new c l (omega arith))
     ];
   }
-
--- the bit alone, as the shift makes it
 
 power : (d : ℕ) → d < 64 → (1 * 2 ^ d) % 2 ^ 64 ≡ 2 ^ d
 power d h = let e : 1 * 2 ^ d ≡ 2 ^ d = omega arith in ap (λ n. n % 2 ^ 64) e ∙ mod-eq_of_lt (pow-lt h)

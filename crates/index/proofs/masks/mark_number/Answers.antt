@@ -16,8 +16,6 @@ use Rattle.index.proofs.Growing.{band-few}
 use Rattle.index.proofs.Listing.{marked-with, marked-without}
 use Rattle.index.proofs.masks.mark_number.Goals as goal
 
--- both bounds are on the axis
-
 pub band-from-requires : goal.band-from-requires
 band-from-requires c =
     let from_low : let a = c.args in le_z a.a.low (low_of a.bounds.now a.d) ≡ true = c.requires.spans.low c.args.d c.requires.runs_len.2 in
@@ -31,8 +29,6 @@ band-to-requires c =
     le_trans a.a.low (low_of a.bounds.now a.d) (high_of a.bounds.now a.d) from_low c.requires.d_value in
     let f : SFits w32 (get_or c.args.bounds.now (64 + c.args.d) (pos 0)) = search rules in
     (simp (to_z-of_z f) from-high, c.requires.spans.axis.most)
-
--- the bands as they were told
 
 pub mark-requires : goal.mark-requires
 mark-requires c =

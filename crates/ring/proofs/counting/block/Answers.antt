@@ -9,8 +9,6 @@ use Rattle.ring.specs.Walk.{head_of, Clean, Sight, Counts}
 use Rattle.ring.proofs.Walks.{counts_past}
 use Rattle.ring.proofs.counting.block.Goals as goal
 
--- the list and the wide point may be handed on
-
 pub seen-requires : goal.seen-requires
 seen-requires c =
     let clean : Clean c.args.ring.now (head_of c.wide-w.result) = subst (Clean c.args.ring.now) (sym c.wide-w.ensures) c.requires.clean in

@@ -11,8 +11,6 @@ use Rattle.ring.proofs.Vertices.{length-vertices}
 use Rattle.ring.proofs.Walks.{ready-clean, counts-none, counts-edge, counts-on, counts_all}
 use Rattle.ring.proofs.counting.each.Goals as goal
 
--- the count c became v along the first edges, and `from` is where they end; the next vertex stands at place k
-
 pub closing-count-requires : goal.closing-count-requires
 closing-count-requires c = c.requires
 
@@ -25,8 +23,6 @@ seen-from-requires c =
 pub loop-k-init : goal.loop-k-init
 loop-k-init c =
     record { edges = 0; place = omega arith; within = omega (arith, c.requires.least); counts = counts-none (vertices c.args.ring.now) (head_of c.args.r) 0 c.closing-count.result; sight = c.seen-from.ensures }
-
--- the vertex at place k
 
 pub seen-to-requires : goal.seen-to-requires
 seen-to-requires c =

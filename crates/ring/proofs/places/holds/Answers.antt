@@ -12,8 +12,6 @@ use Rattle.ring.specs.Segment.{between}
 use Rattle.ring.proofs.Quadrants.{zero-order}
 use Rattle.ring.proofs.places.holds.Goals as goal
 
--- the first test is whether the determinant is 0
-
 pub returns-then-d : goal.returns-then-d
 returns-then-d c =
     let in-line : le_z c.determinant-d.result.0 (pos 0) && le_z (pos 0) c.determinant-d.result.0 ≡ eq_z (cross c.args.from c.args.to) (pos 0) = zero-order c.determinant-d.result.0 ∙ ap (λ (d : ℤ). eq_z d (pos 0)) c.determinant-d.ensures in

@@ -15,8 +15,6 @@ use Rattle.exact.proofs.Bounds.{quot_fits}
 use Rattle.ring.specs.Turns.{oddly}
 use Rattle.ring.proofs.walk.parity.Goals as goal
 
--- a number is not 0
-
 abbrev other : ℤ → Bool
 other r = lt_z r (pos 0) || lt_z (pos 0) r
 

@@ -12,8 +12,6 @@ negative : (n : ℕ) → n < 2 ^ 31 → SFits w32 (pos 0 -ℤ pos n)
 negative zero h = record { sfits = omega arith }
 negative (suc n) h = rw (+ℤ_idl (negsuc n)) (record { sfits = omega arith })
 
--- of a number as its bits are read back
-
 negative-bits : (n : ℕ) → n < 2 ^ 31 → SFits w32 (pos 0 -ℤ to_z w32 n)
 negative-bits n h = rw (to_z-of_z w32 (pos n) (record { sfits = h })) (negative n h)
 

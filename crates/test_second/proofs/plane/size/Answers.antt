@@ -4,8 +4,6 @@ use Rattle.std.proofs.Common.{◌≡◌, true, false, T, ℤ, pos, negsuc, ◌-�
 use lib.Signed.{lt_z, non_neg}
 use Rattle.test_second.proofs.plane.size.Goals as goal
 
--- what a cast to 64 unsigned bits asks
-
 abbrev Counts : ℤ → Type 0
 Counts z = T (non_neg z) × Fits w64 (nat_abs z)
 

@@ -9,8 +9,6 @@ use Rattle.wording.proofs.Decimals.{decimal-short}
 use Rattle.wording.proofs.Written.{kind-short, said-short}
 use Rattle.wording.proofs.lines.line_at.Goals as goal
 
--- where each part ends at most
-
 pub kind-named-requires : goal.kind-named-requires
 kind-named-requires c =
     let numbered : c.number-numbered.result ≤ c.args.at + 20 = omega (arith, c.number-numbered.ensures.behind, decimal-short c.args.n) in

@@ -13,8 +13,6 @@ use Rattle.ring.specs.Choices.{pick}
 use Rattle.ring.specs.Crossings.{steps}
 use Rattle.ring.proofs.counting.Count.along.Goals as goal
 
--- what was added is what the rule's edge adds
-
 pub with-requires : goal.with-requires
 with-requires c =
     record { turns_bound = c.requires.turns_bound; s_bound = c.added.ensures.1 }
