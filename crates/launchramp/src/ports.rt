@@ -1,6 +1,6 @@
 // Standard input and output. A call that would block is made again after a wait, and one that a signal interrupted at once. Where a call fails
 // otherwise the reason is said on standard error: a sentence that whoever runs the program goes by.
-ghost use Rattle.std.specs.Prelude.{◌≤◌, length};
+ghost use Rattle.std.specs.Prelude.{◌≤◌, length, IfOk};
 ghost use Rattle.launchramp.specs.Held.{Brought};
 
 use std::io::{self, ErrorKind, Read};
@@ -33,11 +33,15 @@ fn reason(text: &str) -> &str {
     }
 }
 
-// Says the sentence on standard error, with the reason as the system words it.
+// Says the sentence on standard error, with the reason as the system words it; without it where there is no memory for those words.
 fn say<R: Runtime>(rt: &R, sentence: &str, error: io::Error) -> io::Result<()> {
-    let text = format!(in rt.alloc(); "{error}")?;
-    let words = reason(text.as_str());
-    eprintln!(rt; "{sentence}: {words}")
+    match format!(in rt.alloc(); "{error}") {
+        Ok(text) => {
+            let words = reason(text.as_str());
+            eprintln!(rt; "{sentence}: {words}")
+        }
+        Err(_) => eprintln!(rt; "{sentence}"),
+    }
 }
 
 // Whether the call that failed with this error is to be made again; if not, the sentence is said with the reason.
@@ -77,12 +81,23 @@ pub fn read_behind<R: Runtime>(rt: &R, input: &mut [u8], n: usize) -> Filled
     }
 }
 
+// Writes some of the text, and answers how much; a write that takes nothing has failed.
+fn write_some<R: Runtime>(rt: &R, text: &[u8]) -> io::Result<usize>
+    ensures { IfOk result (λ n. n ≤ length text.now) }
+{
+    let put = rt.write_some(text)?;
+    if put == 0 {
+        return Err(io::Error::from(ErrorKind::WriteZero));
+    }
+    Ok(put)
+}
+
 // Writes all of the text, going on where a write stopped, and answers whether it could.
 pub fn written<R: Runtime>(rt: &R, text: &[u8]) -> bool {
     let mut done = 0;
     let mut tries = TRIES;
     while (done < text.len()) & (0 < tries) {
-        match rt.write_some(&text[done..]) {
+        match write_some(rt, &text[done..]) {
             Ok(put) => done += put,
             Err(error) => {
                 if !is_tried_again(rt, error, "launchramp: the output could not be written") {
