@@ -7,7 +7,6 @@ use lib.Ieee.{Float}
 use mir.Syntax.{w32}
 use mir.Val.{SFits, to_z, of_z}
 use mir.Facts.{to_z-of_z}
-use borrow.Author.Rules.{rules}
 use Rattle.ring.specs.Grid.{beyond}
 use Rattle.ring.proofs.Pick.{pick_true, pick-false, neither_left, neither_right}
 use Rattle.fixes.specs.declared.Placed.TheVariants.{OnGrid}

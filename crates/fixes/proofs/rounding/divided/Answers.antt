@@ -4,7 +4,6 @@ use native.Mathlib.Nat.{div-eq_of_lt, mod-eq_of_lt, mod-le, one-mul, div-le_self
 use native.Mathlib.Omega.{arith}
 use mathlib.Core.Path.{◌≡◌, sym, ◌∙◌}
 use lib.Pow.{pow_pos, pow-lt, pow_mono}
-use borrow.Author.Rules.{rules}
 use borrow.Author.Tests.{lt-ltb, le-ltb}
 use Rattle.ring.proofs.Pick.{pick_true, pick-false}
 use Rattle.fixes.specs.Millimetres.{rounded}

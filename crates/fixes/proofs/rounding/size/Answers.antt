@@ -1,7 +1,6 @@
 -- `fixes::rounding::size` is the definition's choice, one test after the other. Assumes nothing.
 use native.Mathlib.Omega.{arith}
 use mathlib.Core.Path.{◌≡◌, sym, ◌∙◌}
-use borrow.Author.Rules.{rules}
 use borrow.Author.Tests.{le-leb, lt-leb, eq-eqb, ne_eqb}
 use Rattle.ring.proofs.Pick.{pick_true, pick-false}
 use Rattle.fixes.specs.Millimetres.{size_of}

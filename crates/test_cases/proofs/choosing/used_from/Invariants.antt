@@ -1,6 +1,5 @@
 -- `choosing::used_from` meets its contract. The invariant says nothing. The measure is how many are left. Assumes nothing.
 use Prim.Native.Nat.{◌-◌, ◌≤◌}
-use borrow.Author.Rules.{rules}
 use Rattle.test_cases.proofs.choosing.used_from.Given as goal
 
 abbrev pub invariant-loop-t : goal.invariant-loop-t

@@ -1,6 +1,5 @@
 -- `matching::common` meets its contract. The invariant: k is at least 1 and at most 2048. The measure is how many are left. Assumes nothing.
 use Prim.Native.Nat.{◌-◌, ◌<◌, ◌≤◌}
-use borrow.Author.Rules.{rules}
 use Rattle.test_cases.proofs.matching.common.Given as goal
 
 abbrev pub invariant-loop-k : goal.invariant-loop-k

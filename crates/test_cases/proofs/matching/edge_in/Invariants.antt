@@ -1,6 +1,5 @@
 -- `matching::edge_in` meets its contract. The invariant says nothing. The measure is how many are left. Assumes nothing.
 use Prim.Native.Nat.{◌-◌, ◌≤◌}
-use borrow.Author.Rules.{rules}
 use Rattle.test_cases.proofs.matching.edge_in.Given as goal
 
 abbrev pub invariant-loop-b : goal.invariant-loop-b

@@ -2,7 +2,6 @@
 use mathlib.Core.Path.{◌≡◌}
 use lib.ListN.{length}
 use Prim.Native.Nat.{◌-◌}
-use borrow.Author.Rules.{rules}
 use Rattle.test_cases.proofs.rings.fill.Given as goal
 
 abbrev pub invariant-loop-i : goal.invariant-loop-i

@@ -1,5 +1,5 @@
 -- `compare::all_rings_agree` meets its contract. The invariant says nothing. The measure is how many are left. Assumes nothing.
-use Rattle.std.proofs.Common.{◌-◌, ◌≤◌, rules}
+use Rattle.std.proofs.Common.{◌-◌, ◌≤◌}
 use Rattle.test_lives.proofs.compare.all_rings_agree.Given as goal
 
 abbrev pub invariant-loop-d : goal.invariant-loop-d

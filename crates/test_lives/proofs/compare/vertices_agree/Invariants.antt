@@ -1,5 +1,5 @@
 -- `compare::vertices_agree` meets its contract. The invariant says nothing. The measure is how many are left. Assumes nothing.
-use Rattle.std.proofs.Common.{◌-◌, ◌≤◌, length, rules}
+use Rattle.std.proofs.Common.{◌-◌, ◌≤◌, length}
 use Rattle.test_lives.proofs.compare.vertices_agree.Given as goal
 
 abbrev pub invariant-loop-k : goal.invariant-loop-k

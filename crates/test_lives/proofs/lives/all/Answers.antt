@@ -1,5 +1,5 @@
 -- `lives::all` meets its contract: the length of a long list is told by a law, not counted. Assumes nothing.
-use Rattle.std.proofs.Common.{pos, sym, rules}
+use Rattle.std.proofs.Common.{pos, sym}
 use lib.ListN.{length-replicate}
 use Rattle.test_lives.proofs.lives.all.Goals as goal
 

@@ -1,7 +1,7 @@
 -- `lives::steps` meets its contract. The invariant: the lists keep their lengths. The measure is how many are left. Assumes nothing.
 use Rattle.test_rows.specs.Shape.{all_rows}
 use Rattle.test_cases.specs.Room.{room}
-use Rattle.std.proofs.Common.{◌≡◌, ◌-◌, length, rules}
+use Rattle.std.proofs.Common.{◌≡◌, ◌-◌, length}
 use Rattle.test_lives.proofs.lives.steps.Given as goal
 
 abbrev pub invariant-loop-t : goal.invariant-loop-t

@@ -1,5 +1,5 @@
 -- `merging::matches` meets its contract. The invariant: at most one past the last is asked. The measure is how many are left. Assumes nothing.
-use Rattle.std.proofs.Common.{◌+◌, ◌-◌, ◌≤◌, rules}
+use Rattle.std.proofs.Common.{◌+◌, ◌-◌, ◌≤◌}
 use Rattle.test_rows.proofs.merging.matches.Given as goal
 
 abbrev pub invariant-loop-t : goal.invariant-loop-t

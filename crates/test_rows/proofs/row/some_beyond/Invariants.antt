@@ -1,5 +1,5 @@
 -- `row::some_beyond` meets its contract. The invariant says nothing. The measure is how many are left. Assumes nothing.
-use Rattle.std.proofs.Common.{◌-◌, ◌≤◌, length, rules}
+use Rattle.std.proofs.Common.{◌-◌, ◌≤◌, length}
 use Rattle.test_rows.proofs.row.some_beyond.Given as goal
 
 abbrev pub invariant-loop-i : goal.invariant-loop-i

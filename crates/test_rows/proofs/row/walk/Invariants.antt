@@ -1,6 +1,6 @@
 -- `row::walk` meets its contract. The invariant: the list keeps its length. The measure is how many are left. Assumes nothing.
 use Rattle.test_rows.specs.Shape.{all_rows}
-use Rattle.std.proofs.Common.{◌≡◌, ◌+◌, ◌-◌, ◌≤◌, length, rules}
+use Rattle.std.proofs.Common.{◌≡◌, ◌+◌, ◌-◌, ◌≤◌, length}
 use Rattle.test_rows.proofs.row.walk.Given as goal
 
 abbrev pub invariant-loop-t : goal.invariant-loop-t

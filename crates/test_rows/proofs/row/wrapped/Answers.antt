@@ -1,5 +1,5 @@
 -- `wrapped` meets its contract, by the law of the remainder. Assumes nothing.
-use Rattle.std.proofs.Common.{mod-lt, rules}
+use Rattle.std.proofs.Common.{mod-lt}
 use Rattle.test_rows.proofs.row.wrapped.Goals as goal
 
 pub returns : goal.returns
