@@ -13,10 +13,10 @@ use Rattle.ring.specs.Columns.{points}
 use Rattle.ring.specs.Locate as Locate
 use Rattle.ring.specs.Locate.{located_on}
 use Rattle.ring.specs.Walk.{Aside}
-use Rattle.ring.proofs.Columns.{length-points}
+use Rattle.ring.proofs.Points.{length-points}
 use Rattle.ring.proofs.Missed.{missed-ring}
-use Rattle.columns.specs.Walk.{Beside, over, under}
-use Rattle.columns.proofs.Sides.{by_row, by-column}
+use Rattle.ring.specs.Columns.{Beside, over, under}
+use Rattle.ring.proofs.Sides.{by_row, by-column}
 use Rattle.areas.specs.Areas.{parts, given, off, after_ring, lies_from, lies_in}
 use Rattle.areas.specs.Lengths.{sum}
 use Rattle.areas.proofs.Past.{part_length, part-points}

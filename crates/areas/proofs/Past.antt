@@ -5,22 +5,23 @@ use native.Mathlib.Omega.{arith}
 use mathlib.Core.Path.{◌≡◌, refl, sym, ap, subst, subst₂, ◌∙◌}
 use mathlib.Core.Bool.{Bool, false, ◌||◌, or_assoc}
 use mathlib.Core.List.{List, [], ◌∷◌, ◌++◌}
-use lib.IntN.{ℤ, pos, nat_abs, ◌+ℤ◌}
+use lib.IntN.{ℤ, nat_abs, ◌+ℤ◌}
 use lib.ListN.{length, get_or, take, drop, length-take, length-drop, take-append-drop, drop_of_length-le}
 use lib.Seq.{drop-cons, drop-drop}
 use lib.Dec.{ltb}
 use borrow.Author.Tests.{ltb-false}
-use Rattle.exact.proofs.Bounds.{nat_abs-add}
+use mir.Syntax.{w32}
+use mir.Val.{SFits}
+use Rattle.exact.proofs.Bounds.{nat_abs-add, within-add}
 use Rattle.ring.specs.declared.Point.{Point}
 use Rattle.ring.specs.Grid.{beyond, some_beyond}
-use Rattle.ring.specs.Columns.{points}
+use Rattle.ring.specs.Columns.{points, IsRing}
 use Rattle.ring.specs.Turns.{winding}
 use Rattle.ring.specs.Locate as Locate
 use Rattle.ring.specs.Locate.{Touch, Place, located_on}
 use Rattle.ring.specs.Walk.{most_turns}
-use Rattle.ring.proofs.Columns.{length-points, points-take, points-drop}
+use Rattle.ring.proofs.Points.{length-points, points-take, points-drop}
 use Rattle.ring.proofs.Pick.{neither_left, neither_right}
-use Rattle.columns.specs.Walk as columns
 use Rattle.columns.specs.Walk.{Clean}
 use Rattle.areas.specs.Areas.{parts, given, Lie, on, off, after_ring, lies_from, lies_in}
 use Rattle.areas.specs.Lengths.{most_rings, sum, outside, some_outside}
@@ -52,28 +53,31 @@ module _ (xs ys : List ℤ) (R : Point) (clean : Clean xs ys R) (f n : ℕ) (lea
   cut : {A : Type 0} (l : List A) → take (f + n - f) (drop f l) ≡ take n (drop f l)
   cut l = let e : f + n - f ≡ n = omega arith in λ i. take (e i) (drop f l)
 
-  pub ring-ready : columns.Ready (take (f + n - f) (drop f xs)) (take (f + n - f) (drop f ys)) R
+  ring-ready : IsRing (take (f + n - f) (drop f xs)) (take (f + n - f) (drop f ys))
   ring-ready =
       let across : length (take n (drop f xs)) ≡ n = part_length xs f n inside in
       let up : length (take n (drop f ys)) ≡ n = part_length ys f n (let e = clean.even in omega arith) in
       let most = clean.most in
-      subst₂ (λ us vs. columns.Ready us vs R) (sym (cut xs)) (sym (cut ys)) (record {
+      subst₂ IsRing (sym (cut xs)) (sym (cut ys)) (record {
+        even = across ∙ sym up;
         least = omega (arith, across);
-        clean = record { even = across ∙ sym up; most = omega (arith, across, most, inside); grid-x = part-on-grid f n xs clean.grid-x; grid-y = part-on-grid f n ys clean.grid-y; point = clean.point };
+        most = omega (arith, across, most, inside);
+        grid-x = part-on-grid f n xs clean.grid-x;
+        grid-y = part-on-grid f n ys clean.grid-y;
       })
 
   ring-points : points (take (f + n - f) (drop f xs)) (take (f + n - f) (drop f ys)) ≡ take n (drop f (points xs ys))
   ring-points = (λ i. points (cut xs i) (cut ys i)) ∙ sym (part-points xs ys f n)
 
   -- by that ring alone
-  pub ring-lies : (k : ℕ) (w : ℤ) (p : Place) → p ≡ located_on (points (take (f + n - f) (drop f xs)) (take (f + n - f) (drop f ys))) R → after_ring k w p off ≡ lies_from k w (take n (drop f (points xs ys)) ∷ []) R
+  ring-lies : (k : ℕ) (w : ℤ) (p : Place) → p ≡ located_on (points (take (f + n - f) (drop f xs)) (take (f + n - f) (drop f ys))) R → after_ring k w p off ≡ lies_from k w (take n (drop f (points xs ys)) ∷ []) R
   unfolding lies_from
   ring-lies k w p e = ap (λ q. after_ring k w q off) (e ∙ ap (λ P. located_on P R) ring-points)
 
-  pub ring-few : (v : ℤ) (o : Bool) → Locate.off v o ≡ located_on (points (take (f + n - f) (drop f xs)) (take (f + n - f) (drop f ys))) R → nat_abs v ≤ most_turns
+  ring-few : (v : ℤ) (o : Bool) → Locate.off v o ≡ located_on (points (take (f + n - f) (drop f xs)) (take (f + n - f) (drop f ys))) R → nat_abs v ≤ most_turns
   ring-few v o e =
       let P = points (take (f + n - f) (drop f xs)) (take (f + n - f) (drop f ys)) in
-      let r = ring-ready.clean in
+      let r = ring-ready in
       subst (λ (z : ℤ). nat_abs z ≤ most_turns) (sym (off-winding P R v o (sym e))) (omega (arith, winding-few P R, length-points (take (f + n - f) (drop f xs)) (take (f + n - f) (drop f ys)) r.even, r.most))
 
 -- ---- one ring, then those behind it
@@ -109,9 +113,6 @@ pub record Past (xs ys : List ℤ) (sizes : List ℕ) (R : Point) (about : ℤ) 
   pub fits : at + sum (given (drop k sizes)) ≤ length xs
   pub few : nat_abs about ≤ k * most_turns
 
-pub past-none : (xs ys : List ℤ) (sizes : List ℕ) (R : Point) → Ready xs ys sizes R → Past xs ys sizes R (pos 0) 0 0
-past-none xs ys sizes R r = record { lies = refl; sized = r.sized; fits = omega (arith, r.fits); few = omega arith }
-
 none_left : (xs ys : List ℤ) (sizes : List ℕ) (R : Point) (about : ℤ) (at k : ℕ) → Past xs ys sizes R about at k → given (drop k sizes) ≡ [] → off about ≡ Whole xs ys sizes R
 unfolding parts lies_from
 none_left xs ys sizes R about at k past e = ap (λ ns. lies_from k about (parts ns (drop at (points xs ys))) R) (sym e) ∙ past.lies
@@ -121,22 +122,24 @@ pub past_all : (xs ys : List ℤ) (sizes : List ℕ) (R : Point) (about : ℤ) (
 unfolding given
 past_all xs ys sizes R about at k ready past h = none_left xs ys sizes R about at k past (ap given (drop_of_length-le sizes {i = k} (omega (arith, ready.nine, h))))
 
--- the next size was read
-pub record Read (xs ys : List ℤ) (sizes : List ℕ) (R : Point) (about : ℤ) (at k n : ℕ) : Type 0 where
+-- the next size is read
+pub record Read (xs ys : List ℤ) (sizes : List ℕ) (R : Point) (about : ℤ) (at k : ℕ) : Type 0 where
   pub ready : Ready xs ys sizes R
   pub past : Past xs ys sizes R about at k
   pub low : k < most_rings
-  pub here : n ≡ get_or sizes k 0
 
-module _ {xs ys : List ℤ} {sizes : List ℕ} {R : Point} {about : ℤ} {at k n : ℕ} (read : Read xs ys sizes R about at k n) where
+module _ {xs ys : List ℤ} {sizes : List ℕ} {R : Point} {about : ℤ} {at k : ℕ} (read : Read xs ys sizes R about at k) where
+  abbrev n : ℕ
+  n = get_or sizes k 0
+
   ahead : drop k sizes ≡ n ∷ drop (k + 1) sizes
-  ahead = drop-cons sizes k 0 (omega (arith, read.low, read.ready.nine)) ∙ (λ i. sym read.here i ∷ drop (sym (add-one k) i) sizes)
+  ahead = drop-cons sizes k 0 (omega (arith, read.low, read.ready.nine)) ∙ (λ i. n ∷ drop (sym (add-one k) i) sizes)
 
   -- no ring is left: a 0 was read
   pub past_end : n ≡ 0 → off about ≡ Whole xs ys sizes R
   past_end e = none_left xs ys sizes R about at k read.past (ap given ahead ∙ given-none n (drop (k + 1) sizes) e)
 
-  pub next-few : nat_abs about ≤ most_about
+  next-few : nat_abs about ≤ most_about
   next-few = omega (arith, read.past.few, read.low)
 
   module _ (some : n ≡ 0 → ⊥) where
@@ -157,7 +160,7 @@ module _ {xs ys : List ℤ} {sizes : List ℕ} {R : Point} {about : ℤ} {at k n
     unfolding sum
     left = subst (λ ns. at + sum ns ≤ length xs) next read.past.fits
 
-    pub next-least : 3 ≤ n
+    next-least : 3 ≤ n
     next-least = ltb-false n 3 (neither_left (ltb n 3) _ (neither_left (outside n) _ tests))
 
     pub next-inside : at + n ≤ length xs
@@ -170,10 +173,10 @@ module _ {xs ys : List ℤ} {sizes : List ℕ} {R : Point} {about : ℤ} {at k n
         ∙ ap (λ ns. lies_from k about (parts ns (drop at (points xs ys))) R) (sym next)
         ∙ read.past.lies
 
-    pub past-on : (j : ℕ) (t : Touch) → lies_from k about (ring ∷ []) R ≡ on j t → on j t ≡ Whole xs ys sizes R
+    past-on : (j : ℕ) (t : Touch) → lies_from k about (ring ∷ []) R ≡ on j t → on j t ≡ Whole xs ys sizes R
     past-on j t e = sym (met-first k j about ring behind R t e) ∙ rings
 
-    pub past_more : (v : ℤ) → lies_from k about (ring ∷ []) R ≡ off v → Past xs ys sizes R v (at + n) (k + 1)
+    past_more : (v : ℤ) → lies_from k about (ring ∷ []) R ≡ off v → Past xs ys sizes R v (at + n) (k + 1)
     past_more v e =
         let clean = read.ready.clean in
         let (same, added) = passed_first k about v ring behind R e in
@@ -184,3 +187,21 @@ module _ {xs ys : List ℤ} {sizes : List ℕ} {R : Point} {about : ℤ} {at k n
           fits = omega (arith, left);
           few = subst (λ (z : ℤ). nat_abs z ≤ (k + 1) * most_turns) added (omega (arith, nat_abs-add about (winding ring R), winding-few ring R, long, read.past.few, next-inside, clean.most));
         }
+
+    -- ---- the same of the columns as the code cuts them
+
+    abbrev cut_points : List Point
+    cut_points = points (take (at + n - at) (drop at xs)) (take (at + n - at) (drop at ys))
+
+    pub next-ready : IsRing (take (at + n - at) (drop at xs)) (take (at + n - at) (drop at ys))
+    next-ready = ring-ready xs ys R read.ready.clean at n next-least next-inside
+
+    pub next-on : (t : Touch) → Locate.on t ≡ located_on cut_points R → on k t ≡ Whole xs ys sizes R
+    next-on t e = past-on k t (sym (ring-lies xs ys R read.ready.clean at n next-least next-inside k about (Locate.on t) e))
+
+    pub next-off : (w : ℤ) (o : Bool) → Locate.off w o ≡ located_on cut_points R → Past xs ys sizes R (about +ℤ w) (at + n) (k + 1)
+    next-off w o e = past_more (about +ℤ w) (sym (ring-lies xs ys R read.ready.clean at n next-least next-inside k about (Locate.off w o) e))
+
+    -- the sum of the winding numbers fits
+    pub next-fits : (w : ℤ) (o : Bool) → Locate.off w o ≡ located_on cut_points R → SFits w32 (about +ℤ w)
+    next-fits w o e = within-add w32 about w most_about most_turns next-few (ring-few xs ys R read.ready.clean at n next-least next-inside w o e) tt

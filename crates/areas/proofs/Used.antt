@@ -29,12 +29,6 @@ module _ (points : ℕ) (lengths : List ℕ) where
   first-tests : no_rings points lengths ≡ (early || misused (points / 2) lengths)
   first-tests = sym (or_assoc (eqb (points % 2) 1) (eqb (length lengths) 0) (misused (points / 2) lengths))
 
-  pub left-early : early ≡ true → true ≡ no_rings points lengths
-  left-early e = sym (first-tests ∙ ap (λ (b : Bool). b || misused (points / 2) lengths) e)
-
-  pub left-start : early ≡ false → Left points lengths (points / 2) 0
-  left-start e = sym (first-tests ∙ ap (λ (b : Bool). b || misused (points / 2) lengths) e)
-
   pub left_end : (left i : ℕ) → Left points lengths left i → length lengths ≤ i → (r : Bool) → (0 < left → r ≡ true) → (left ≡ 0 → r ≡ false) → r ≡ no_rings points lengths
   unfolding sum some_outside
   left_end left i l h r some none = go left some none ∙ sym (ap (misused left) (drop_of_length-le lengths {i = i} h)) ∙ l
@@ -43,13 +37,15 @@ module _ (points : ℕ) (lengths : List ℕ) where
       go zero some none = none refl
       go (suc m) some none = some (omega arith) ∙ sym (ap not (ne_eqb 0 (suc m) (λ e. let f : ⊥ = omega arith in f)))
 
--- the next length was read
-pub record Read (points : ℕ) (lengths : List ℕ) (left i n : ℕ) : Type 0 where
+-- the next length is read
+pub record Read (points : ℕ) (lengths : List ℕ) (left i : ℕ) : Type 0 where
   pub before : Left points lengths left i
   pub low : i < length lengths
-  pub here : n ≡ get_or lengths i 0
 
-module _ {points : ℕ} {lengths : List ℕ} {left i n : ℕ} (read : Read points lengths left i n) where
+module _ {points : ℕ} {lengths : List ℕ} {left i : ℕ} (read : Read points lengths left i) where
+  abbrev n : ℕ
+  n = get_or lengths i 0
+
   abbrev rest : List ℕ
   rest = drop (i + 1) lengths
 
@@ -57,7 +53,7 @@ module _ {points : ℕ} {lengths : List ℕ} {left i n : ℕ} (read : Read point
   late = outside n || ltb left n
 
   ahead : misused left (n ∷ rest) ≡ no_rings points lengths
-  ahead = ap (misused left) (sym (drop-cons lengths i 0 read.low ∙ (λ j. sym read.here j ∷ drop (sym (add-one i) j) lengths))) ∙ read.before
+  ahead = ap (misused left) (sym (drop-cons lengths i 0 read.low ∙ (λ j. n ∷ drop (sym (add-one i) j) lengths))) ∙ read.before
 
   pub left-late : late ≡ true → true ≡ no_rings points lengths
   unfolding sum some_outside

@@ -1,15 +1,9 @@
 // The lengths of an area's rings as a founding is given them, outer ring first. No function here has a `requires`.
-ghost use Rattle.std.specs.Prelude.{◌≡◌, ◌<◌, ◌^◌};
+ghost use Rattle.std.specs.Prelude.{◌≡◌};
 ghost use Rattle.areas.specs.Lengths.{no_rings, too_many_lakes};
 
 use crate::MOST_RINGS;
 use ring::{FEWEST_VERTICES, MOST_VERTICES};
-
-pub fn wide(x: u32) -> usize
-    ensures { (result ≡ x) × (result < 2 ^ 32) }
-{
-    x as usize
-}
 
 // Whether a list of so many numbers x, y, x, y, .. is not the rings of these lengths. What is left of the points is counted down: the lengths may add up to more
 // than a number of the code holds.
@@ -20,14 +14,12 @@ pub fn no_rings(points: usize, lengths: &[u32]) -> bool
         return true;
     }
     let mut left = points / 2;
-    let mut i = 0;
-    while i < lengths.len() {
-        let n = wide(lengths[i]);
+    for length in lengths {
+        let n = *length as usize;
         if ((n < FEWEST_VERTICES) | (MOST_VERTICES < n)) | (left < n) {
             return true;
         }
         left -= n;
-        i += 1;
     }
     0 < left
 }

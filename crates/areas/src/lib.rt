@@ -5,15 +5,13 @@
 
 mod lengths;
 
-ghost use Rattle.std.specs.Prelude.{◌≡◌, [], ◌∷◌, ◌+◌, ◌≤◌, nat_abs, ◌+ℤ◌, length, take, drop};
+ghost use Rattle.std.specs.Prelude.{◌≡◌};
 ghost use Rattle.ring.specs.Columns.{points};
-ghost use Rattle.ring.specs.Walk.{most_turns};
-ghost use Rattle.columns.specs.Walk.{Clean};
-ghost use Rattle.areas.specs.Areas.{parts, given, lies_from, lies_in, lie_of};
-ghost use Rattle.areas.specs.Walk.{Ready, most_about};
+ghost use Rattle.areas.specs.Areas.{parts, given, lies_in, lie_of};
+ghost use Rattle.areas.specs.Walk.{Ready};
 
 pub use lengths::{no_rings, too_many_lakes};
-use ring::{Located, Point, Touch, Winding};
+use ring::{Columns, Place, Point, Touch, Winding};
 
 // An outer ring and at most 8 lakes.
 const MOST_RINGS: usize = 9;
@@ -25,56 +23,28 @@ pub enum Lying {
     Off(Winding),
 }
 
-fn sum(about: Winding, w: Winding) -> Winding
-    requires about_bound { nat_abs about.0 ≤ most_about }
-    requires w_bound { nat_abs w.0 ≤ most_turns }
-    ensures { result.0 ≡ about.0 +ℤ w.0 }
-{
-    Winding(about.0 + w.0)
-}
-
-// Where r lies by the next ring alone, ring k, whose n vertices stand from place `at` on; `about` is the winding number about the rings before it.
-fn next_ring(
-    xs: &[i32],
-    ys: &[i32],
-    at: usize,
-    n: usize,
-    r: Point,
-    k: usize,
-    about: Winding,
-) -> Lying
-    requires clean { Clean xs.now ys.now r }
-    requires le_n { (3 ≤ n) × (at + n ≤ length xs.now) }
-    requires about_bound { nat_abs about.0 ≤ most_about }
-    ensures { lie_of result ≡ lies_from k about.0 (take n (drop at (points xs.now ys.now)) ∷ []) r }
-{
-    let to = at + n;
-    match columns::locate_on(&xs[at..to], &ys[at..to], r) {
-        Located::On(touch) => Lying::On(k, touch),
-        Located::Off(w, _) => Lying::Off(sum(about, w)),
-        Located::Refused(_) => Lying::Off(about),
-    }
-}
-
 // Where r lies to the area whose rings the columns hold, one behind the other. Of its nine sizes, one for each ring, those behind a 0 are not looked at.
 pub fn locate_on(xs: &[i32], ys: &[i32], sizes: &[u32], r: Point) -> Lying
     requires { Ready xs.now ys.now sizes.now r }
     ensures { lie_of result ≡ lies_in (parts (given sizes.now) (points xs.now ys.now)) r }
 {
-    let mut about = Winding(0);
+    let mut about = 0;
     let mut at = 0;
-    let mut k = 0;
-    while k < MOST_RINGS {
-        let n = lengths::wide(sizes[k]);
+    for (k, size) in sizes.iter().enumerate() {
+        let n = *size as usize;
         if n == 0 {
-            return Lying::Off(about);
+            return Lying::Off(Winding(about));
         }
-        match next_ring(xs, ys, at, n, r, k, about) {
-            Lying::On(ring, touch) => return Lying::On(ring, touch),
-            Lying::Off(w) => about = w,
+        let to = at + n;
+        let ring = Columns {
+            xs: &xs[at..to],
+            ys: &ys[at..to],
+        };
+        match columns::locate_on(&ring, r) {
+            Place::On(touch) => return Lying::On(k, touch),
+            Place::Off(w, _) => about += w.0,
         }
-        at += n;
-        k += 1;
+        at = to;
     }
-    Lying::Off(about)
+    Lying::Off(Winding(about))
 }

@@ -1,5 +1,5 @@
 -- What the acceptance of a split tells, and that what was performed is the rules' split. Assumes nothing.
-use Prim.Native.Nat.{ℕ, suc, ◌+◌, ◌/◌, ◌%◌, ◌≤◌, ◌<◌}
+use Prim.Native.Nat.{ℕ, ◌+◌, ◌/◌, ◌%◌, ◌≤◌, ◌<◌}
 use native.Mathlib.Omega.{arith}
 use mathlib.Core.Path.{◌≡◌, refl, sym, ap, subst, ◌∙◌}
 use mathlib.Core.Bool.{true, false}
@@ -97,11 +97,11 @@ module _ (l : Lists) (d i j : ℕ) (path : List ℤ)
   unfolding P
   ring-is = ring_of_lem outline store runs facts d free.used
 
-  one-is : length (piece_one P i j W) ≡ suc (steps (size runs d) i j) + length path / 2
+  one-is : length (piece_one P i j W) ≡ 1 + steps (size runs d) i j + length path / 2
   unfolding P W
   one-is = ap (λ Q. length (piece_one Q i j W)) (sym ring-is) ∙ one-long outline store runs facts d i j path
 
-  two_is : length (piece_two P i j W) ≡ suc (steps (size runs d) j i) + length path / 2
+  two_is : length (piece_two P i j W) ≡ 1 + steps (size runs d) j i + length path / 2
   unfolding P W
   two_is = ap (λ Q. length (piece_two Q i j W)) (sym ring-is) ∙ two-long outline store runs facts d i j path
 

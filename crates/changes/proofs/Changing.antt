@@ -4,14 +4,14 @@ use Prim.Native.Nat.{ℕ, ◌<◌}
 use native.Mathlib.Decide.{dec_lt}
 use native.Mathlib.Omega.{arith}
 use mathlib.Core.Path.{◌≡◌, refl, sym, ap, subst, ◌∙◌}
-use mathlib.Core.Bool.{true, false, not}
+use mathlib.Core.Bool.{true, false, not, true≢false}
 use mathlib.Core.List.{List}
 use lib.IntN.{ℤ}
 use lib.ListN.{length, set, length-set, get_or-eq_default}
 use lib.Seq.{get_or-set_same}
 use borrow.Author.Tests.{leb-false, not-true, not-false}
+use Rattle.std.specs.Prelude.{Ok}
 use Rattle.ring.specs.Grid.{vertices}
-use Rattle.ring.specs.Choices.{pick}
 use Rattle.ring.proofs.Pick.{neither_right}
 use Rattle.ring.proofs.Search.{lowest-is}
 use Rattle.districts.specs.Register.{Slot, unused, ring, Register, slot, in_use, vertices_of}
@@ -19,7 +19,6 @@ use Rattle.districts.proofs.Meaning.{all-numbers}
 use Rattle.refusals.specs.Verdicts.{Verdict, accept, verdict}
 use Rattle.districts.specs.Lent.{Lists, outline_of, store_of, formed, means, Leaves}
 use Rattle.refusals.proofs.Verdicts.{accepted}
-use Rattle.changes.specs.declared.Changed.TheVariants.{Done}
 use Rattle.judging.specs.Splitting.{piece_one, piece_two, lowest_unused, split_tests}
 use Rattle.changes.specs.Afterwards.{split, merge}
 use Rattle.judging.specs.Merging.{merged, merge_tests}
@@ -27,17 +26,17 @@ use Rattle.changes.specs.Calls.{ChangedBy, SplitBy, MergeBy}
 use Rattle.changes.proofs.Outcomes.{accepting}
 
 -- what was answered with a number was accepted, and left what it was to leave
-granted : (v : Verdict) (d e : ℕ) (g : Register) (before after : Lists) → ChangedBy v d g (Done e) before after → (v ≡ accept) × (means after ≡ g)
+granted : (v : Verdict) (d e : ℕ) (g : Register) (before after : Lists) → ChangedBy v d g (Ok e) before after → (v ≡ accept) × (means after ≡ g)
 granted v d e g before after c =
     let yes = accepting v d e c.said in
     (yes, (subst (λ w. Leaves w g before after) yes c.left).1)
 
 -- a number that one register uses and the other does not tells them apart
 apart : (g h : Register) (d : ℕ) → in_use (slot g d) ≡ true → in_use (slot h d) ≡ false → g ≡ h → ⊥
-apart g h d e f same = let clash : ◌≡◌ {A = ℕ} 1 0 = ap (λ b. pick b 1 0) (sym e ∙ ap (λ k. in_use (slot k d)) same ∙ f) in omega arith
+apart g h d e f same = true≢false (sym e ∙ ap (λ k. in_use (slot k d)) same ∙ f)
 
 -- the new number is unused before and has a ring afterwards
-pub split-changes : (e d i j : ℕ) (path : List ℤ) (before after : Lists) → SplitBy (Done e) d i j path before after → means after ≡ means before → ⊥
+pub split-changes : (e d i j : ℕ) (path : List ℤ) (before after : Lists) → SplitBy (Ok e) d i j path before after → means after ≡ means before → ⊥
 unfolding split lowest_unused
 split-changes e d i j path before after c = apart (means after) (means before) new used free
   where
@@ -66,7 +65,7 @@ split-changes e d i j path before after c = apart (means after) (means before) n
     used = ap (λ h. in_use (slot h new)) given.1 ∙ ap in_use (get_or-set_same one new (ring (piece_two (vertices_of (slot g d)) i j (vertices path))) unused (omega (arith, below, long)))
 
 -- the number that goes is in use before and unused afterwards
-pub merge-changes : (e A a B b k : ℕ) (before after : Lists) → MergeBy (Done e) A a B b k before after → means after ≡ means before → ⊥
+pub merge-changes : (e A a B b k : ℕ) (before after : Lists) → MergeBy (Ok e) A a B b k before after → means after ≡ means before → ⊥
 unfolding merge
 merge-changes e A a B b k before after c same = apart (means before) (means after) B used free (sym same)
   where

@@ -1,6 +1,7 @@
 pub mod Splits
 pub mod Merges
 pub mod Grids
+pub mod Copied
 pub mod Accepted
 pub mod Granted
 pub mod Outcomes

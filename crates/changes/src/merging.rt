@@ -1,132 +1,84 @@
 // Merging two districts along a border: both runs leave the store, and the result is written behind all rings.
-ghost use Rattle.std.specs.Prelude.{◌≡◌, ◌+◌, ◌<◌, ◌≤◌, length};
+ghost use Rattle.std.specs.Prelude.{◌≡◌, ◌/◌, ◌%◌, ◌<◌, ◌≤◌, length};
 ghost use Rattle.ring.specs.Grid.{vertices};
-ghost use Rattle.ring.specs.Columns.{points};
 ghost use Rattle.districts.specs.Lists.{first_place, size as size_of, part};
-ghost use Rattle.changes.specs.declared.Changed.TheVariants.{Done};
-ghost use Rattle.districts.specs.Lent.{lent, formed};
+ghost use Rattle.districts.specs.Lent.{formed};
+ghost use Rattle.districts.specs.Held.{changing_of, SameChanging};
+ghost use Rattle.room.specs.Room.{store_of, SameStore};
 ghost use Rattle.judging.specs.Merging.{merged};
 ghost use Rattle.changes.specs.Performing.{Pair, Joined};
 ghost use Rattle.changes.specs.Calls.{MergeBy};
 
-use crate::Changed;
-use refusals::Verdict;
+use districts::ListsToChange;
+use judging::Seam;
+use refusals::Refusal;
+use room::{RING_NUMBERS, Run, StoreMut};
 
 // Both districts leave, then the kept number takes the result of the rings they had.
-fn join(
-    sx: &mut [i32],
-    sy: &mut [i32],
-    runs: &mut [u32],
-    kept: usize,
-    gone: usize,
-    ring: &[i32],
-    n: usize,
-    a: usize,
-    other: &[i32],
-    m: usize,
-    b: usize,
-    k: usize,
-)
-    requires sx_len { (length sx.old ≡ 2048) × (length sy.old ≡ 2048) × Pair runs.old kept gone }
-    requires ring_len { (length ring.now ≡ n + n) × (size_of runs.old kept ≡ n) × (a < n) }
-    requires other_len { (length other.now ≡ m + m) × (size_of runs.old gone ≡ m) × (b < m) }
-    requires le_k { (1 ≤ k) × (k < n) × (k < m) }
-    ensures { Joined (points sx.old sy.old) runs.old kept gone (merged (vertices ring.now) a (vertices other.now) b k) (points sx.new sy.new) runs.new }
+fn join(store: &mut StoreMut, seam: Seam, ring: &[i32], other: &[i32])
+    requires pair { Pair store.old.runs.now seam.kept seam.gone }
+    requires ring_len { (length ring.now % 2 ≡ 0) × (size_of store.old.runs.now seam.kept ≡ length ring.now / 2) × (seam.a < length ring.now / 2) }
+    requires other_len { (length other.now % 2 ≡ 0) × (size_of store.old.runs.now seam.gone ≡ length other.now / 2) × (seam.b < length other.now / 2) }
+    requires edges { (1 ≤ seam.k) × (seam.k < length ring.now / 2) × (seam.k < length other.now / 2) }
+    ensures lent { SameStore store.old store.new }
+    ensures joined { Joined (store_of store.old) store.old.runs.now seam.kept seam.gone (merged (vertices ring.now) seam.a (vertices other.now) seam.b seam.k) (store_of store.new) store.new.runs.now }
 {
-    let first = room::around(a + k, n);
-    room::remove(sx, sy, runs, kept);
-    room::remove(sx, sy, runs, gone);
-    room::add_two_runs(
-        sx,
-        sy,
-        runs,
-        kept,
+    let n = ring.len() / 2;
+    let m = other.len() / 2;
+    let k = seam.k;
+    let first = Run {
         ring,
-        n,
-        first,
-        n - k + 1,
-        other,
-        m,
-        b + 1,
-        m - k - 1,
-    );
+        from: room::around(seam.a + k, n),
+        many: n - k + 1,
+    };
+    let rest = Run {
+        ring: other,
+        from: seam.b + 1,
+        many: m - k - 1,
+    };
+    store.remove(seam.kept);
+    store.remove(seam.gone);
+    store.add(seam.kept, &first, &rest);
 }
 
 // The rings are copied before their room is closed.
-fn perform(
-    sx: &mut [i32],
-    sy: &mut [i32],
-    runs: &mut [u32],
-    kept: usize,
-    a: usize,
-    gone: usize,
-    b: usize,
-    k: usize,
-) -> Changed
-    requires sx_len { (length sx.old ≡ 2048) × (length sy.old ≡ 2048) × Pair runs.old kept gone }
-    requires a_bound { (a < size_of runs.old kept) × (b < size_of runs.old gone) }
-    requires le_k { (1 ≤ k) × (k < size_of runs.old kept) × (k < size_of runs.old gone) }
-    ensures { (result ≡ Done kept) × Joined (points sx.old sy.old) runs.old kept gone (merged (part (points sx.old sy.old) (first_place runs.old kept) (size_of runs.old kept)) a (part (points sx.old sy.old) (first_place runs.old gone) (size_of runs.old gone)) b k) (points sx.new sy.new) runs.new }
+fn perform(store: &mut StoreMut, seam: Seam)
+    requires pair { Pair store.old.runs.now seam.kept seam.gone }
+    requires ends { (seam.a < size_of store.old.runs.now seam.kept) × (seam.b < size_of store.old.runs.now seam.gone) }
+    requires edges { (1 ≤ seam.k) × (seam.k < size_of store.old.runs.now seam.kept) × (seam.k < size_of store.old.runs.now seam.gone) }
+    ensures lent { SameStore store.old store.new }
+    ensures joined { let P = part (store_of store.old) (first_place store.old.runs.now seam.kept) (size_of store.old.runs.now seam.kept) in
+        let Q = part (store_of store.old) (first_place store.old.runs.now seam.gone) (size_of store.old.runs.now seam.gone) in
+        Joined (store_of store.old) store.old.runs.now seam.kept seam.gone (merged P seam.a Q seam.b seam.k) (store_of store.new) store.new.runs.now }
 {
-    let mut ring = [0i32; crate::RING_NUMBERS];
-    let mut other = [0i32; crate::RING_NUMBERS];
-    let many = room::copy_ring(&mut ring, sx, sy, runs, kept);
-    let more = room::copy_ring(&mut other, sx, sy, runs, gone);
-    join(
-        sx,
-        sy,
-        runs,
-        kept,
-        gone,
-        &ring[0..many],
-        many / 2,
-        a,
-        &other[0..more],
-        more / 2,
-        b,
-        k,
-    );
-    Changed::Done(kept)
+    let mut numbers = [0; RING_NUMBERS];
+    let mut others = [0; RING_NUMBERS];
+    let ring = room::ring_of(store, seam.kept, &mut numbers);
+    let other = room::ring_of(store, seam.gone, &mut others);
+    join(store, seam, ring, other);
 }
 
-// Merges district `kept` from its vertex a with district `gone` from its vertex b along k edges; answers the kept number. It is known whether the register is well-formed.
-pub fn merge_known(
-    good: bool,
-    ox: &[i32],
-    oy: &[i32],
-    sx: &mut [i32],
-    sy: &mut [i32],
-    runs: &mut [u32],
-    kept: usize,
-    a: usize,
-    gone: usize,
-    b: usize,
-    k: usize,
-) -> Changed
-    requires { good ≡ formed (lent ox.now oy.now sx.old sy.old runs.old) }
-    ensures { MergeBy result kept a gone b k (lent ox.now oy.now sx.old sy.old runs.old) (lent ox.now oy.now sx.new sy.new runs.new) }
+// Merges two districts along a seam; answers the kept number. It is known whether the register is well-formed.
+pub fn merge_known(good: bool, lists: &mut ListsToChange, seam: Seam) -> Result<usize, Refusal>
+    requires { good ≡ formed (changing_of lists.old) }
+    ensures lent { SameChanging lists.old lists.new }
+    ensures merged { MergeBy result seam.kept seam.a seam.gone seam.b seam.k (changing_of lists.old) (changing_of lists.new) }
 {
-    match judging::merge(good, ox, oy, sx, sy, runs, kept, a, gone, b, k) {
-        Verdict::Accepted => perform(sx, sy, runs, kept, a, gone, b, k),
-        Verdict::Refused(r) => Changed::Refused(r),
-    }
+    judging::merge(good, &lists.read(), seam)?;
+    let mut store = StoreMut {
+        sx: &mut *lists.sx,
+        sy: &mut *lists.sy,
+        runs: &mut *lists.runs,
+    };
+    perform(&mut store, seam);
+    Ok(seam.kept)
 }
 
-// Merges district `kept` from its vertex a with district `gone` from its vertex b along k edges; answers the kept number.
-pub fn merge(
-    ox: &[i32],
-    oy: &[i32],
-    sx: &mut [i32],
-    sy: &mut [i32],
-    runs: &mut [u32],
-    kept: usize,
-    a: usize,
-    gone: usize,
-    b: usize,
-    k: usize,
-) -> Changed
-    ensures { MergeBy result kept a gone b k (lent ox.now oy.now sx.old sy.old runs.old) (lent ox.now oy.now sx.new sy.new runs.new) }
+// Merges two districts along a seam; answers the kept number.
+pub fn merge(lists: &mut ListsToChange, seam: Seam) -> Result<usize, Refusal>
+    ensures lent { SameChanging lists.old lists.new }
+    ensures merged { MergeBy result seam.kept seam.a seam.gone seam.b seam.k (changing_of lists.old) (changing_of lists.new) }
 {
-    let good = districts::well_formed(ox, oy, sx, sy, runs);
-    merge_known(good, ox, oy, sx, sy, runs, kept, a, gone, b, k)
+    let good = districts::well_formed(&lists.read());
+    merge_known(good, lists, seam)
 }

@@ -1,5 +1,5 @@
 -- Counts at their places in the list: the tally that a list is, with one of them raised. Assumes nothing.
-use Prim.Native.Nat.{ℕ, ◌+◌, ◌≤◌, ◌<◌}
+use Prim.Native.Nat.{ℕ, ◌+◌, ◌<◌}
 use native.Mathlib.Omega.{arith}
 use mathlib.Core.Path.{◌≡◌, refl, sym, ap, subst, ◌∙◌}
 use mathlib.Core.Bool.{Bool, true, false, cond, ◌||◌}
@@ -11,16 +11,9 @@ use lib.Seq.{get_or-take, get_or-set_same, get_or-set_other, take-set-le, take-s
 use Rattle.ring.proofs.Pick.{pick_true, pick-false}
 use Rattle.districts.specs.Answers.{Belongs, border, one, none, several, Answer, report, refused}
 use Rattle.tally.specs.Tally.{most, count_of, uncounted, full, raised}
-use Rattle.codes.specs.Counts.{counts, tally_of, place_of, CountedBy, Raises}
+use Rattle.codes.specs.Counts.{counts, tally_of, place_of, CountedBy}
 
 -- ---- a class with a count, and one without
-
-pub place-one : (d : ℕ) → place_of (one d) ≤ counts
-place-one d = say (leb 64 d) refl
-  where
-    say : (b : Bool) → leb 64 d ≡ b → place_of (one d) ≤ counts
-    say true e = let at : place_of (one d) ≡ 67 = pick_true e _ _ in omega (arith, at)
-    say false e = let at : place_of (one d) ≡ d = pick-false e _ _ in omega (arith, at, leb-false 64 d e)
 
 pub no-count : (b : Belongs) → place_of b ≡ counts → uncounted b ≡ true
 no-count (border d t) e = absurd (let f : ⊥ = omega (arith, e) in f)
@@ -79,27 +72,25 @@ full-refused r b list e = record { tally = sym (ap (λ f. cond f (tally_of list)
 pub uncounted-refused : (r : ℕ) (b : Belongs) (list : List ℕ) → place_of b ≡ counts → CountedBy (report r b) (refused 14) list list
 uncounted-refused r b list e = full-refused r b list (ap (λ u. u || eqb (count_of (tally_of list) b) most) (no-count b e))
 
-pub limit-refused : (r : ℕ) (b : Belongs) (list : List ℕ) → place_of b < counts → get_or list (place_of b) 0 ≡ most → CountedBy (report r b) (refused 14) list list
-limit-refused r b list h e =
-    full-refused r b list (ap (λ u. u || eqb (count_of (tally_of list) b) most) (has-count b h) ∙ eq-eqb _ _ (sym (count_at list b h) ∙ e))
+-- the count at a class's place is as large as a number can be, or it is raised
+module _ (r : ℕ) (b : Belongs) (list : List ℕ) (k : ℕ) (at : k ≡ place_of b) (h : k < counts) where
+  own : place_of b < counts
+  own = subst (λ n. n < counts) at h
 
-pub counted-more : (r : ℕ) (b : Belongs) (list : List ℕ) (v : ℕ) → length list ≡ counts → place_of b < counts → (get_or list (place_of b) 0 ≡ most → ⊥) → v ≡ get_or list (place_of b) 0 + 1
-    → CountedBy (report r b) (report r b) list (set list (place_of b) v)
-counted-more r b list v long h other e =
-    let room : full (tally_of list) b ≡ false = ap (λ u. u || eqb (count_of (tally_of list) b) most) (has-count b h) ∙ ne_eqb _ _ (λ x. other (count_at list b h ∙ x)) in
-    record {
-      tally = raised_at list b v long h e ∙ sym (ap (λ f. cond f (tally_of list) (raised (tally_of list) b)) room);
-      answer = sym (ap (λ f. cond f (refused 14) (report r b)) room);
-    }
+  count : get_or list k 0 ≡ count_of (tally_of list) b
+  count = ap (λ n. get_or list n 0) at ∙ count_at list b own
 
--- a count that was raised, or was not
-pub raised-as : (at : ℕ) (r s : Bool) (before after : List ℕ) → r ≡ s → Raises at r before after → Raises at s before after
-raised-as at r s before after e by = subst (λ b. Raises at b before after) e by
+  pub limit-refused : get_or list k 0 ≡ most → CountedBy (report r b) (refused 14) list list
+  limit-refused e = full-refused r b list (ap (λ u. u || eqb (count_of (tally_of list) b) most) (has-count b own) ∙ eq-eqb _ _ (sym count ∙ e))
+
+  pub counted-more : (v : ℕ) → length list ≡ counts → (get_or list k 0 ≡ most → ⊥) → v ≡ get_or list k 0 + 1 → CountedBy (report r b) (report r b) list (set list k v)
+  counted-more v long other e =
+      let room : full (tally_of list) b ≡ false = ap (λ u. u || eqb (count_of (tally_of list) b) most) (has-count b own) ∙ ne_eqb _ _ (λ x. other (count ∙ x)) in
+      record {
+        tally = ap (λ n. tally_of (set list n v)) at ∙ raised_at list b v long own (e ∙ ap (λ n. get_or list n 0 + 1) at) ∙ sym (ap (λ f. cond f (tally_of list) (raised (tally_of list) b)) room);
+        answer = sym (ap (λ f. cond f (refused 14) (report r b)) room);
+      }
 
 -- an answer is another of the same value
 pub counted-as : {a c b : Answer} {before after : List ℕ} → a ≡ c → CountedBy c b before after → CountedBy a b before after
 counted-as {b = b} {before = before} {after = after} e k = subst (λ x. CountedBy x b before after) (sym e) k
-
--- a refusal is not counted
-pub refusal-passes : (a : Answer) (n : ℕ) (list : List ℕ) → a ≡ refused n → CountedBy a a list list
-refusal-passes a n list e = subst (λ x. CountedBy x x list list) (sym e) (record { tally = refl; answer = refl })

@@ -4,9 +4,11 @@ use mathlib.Core.Path.{◌≡◌, sym, ap, ◌∙◌}
 use mathlib.Core.List.{List}
 use lib.IntN.{ℤ}
 use lib.ListN.{length}
+use Rattle.std.specs.Prelude.{Result}
+use Rattle.ring.specs.declared.Point.{Point}
+use Rattle.refusals.specs.declared.Refusal.{Refusal}
 use Rattle.refusals.specs.Verdicts.{Verdict, accept, refuse}
 use Rattle.districts.specs.Lent.{Lists}
-use Rattle.fixes.specs.declared.Placed.{Placed}
 use Rattle.tally.specs.declared.Tally.{Tally}
 use Rattle.codes.specs.Codes.{Code, Tells, PlaceTells}
 use Rattle.codes.specs.Counts.{tally_of}
@@ -15,7 +17,7 @@ use Rattle.codes.specs.Batches.{TallyBy, batch, BatchTells, BatchCounts}
 pub one_told : (r s : ℕ) (values values' : List ℕ) (c : Code) → Tells r values c → Tells s values' c → (r ≡ s) × (values ≡ values')
 one_told r s values values' c p q = (p.kind ∙ sym q.kind, p.values ∙ sym q.values)
 
-pub one_placed : (r s : ℕ) (values values' : List ℕ) (p : Placed) (before after after' : List ℤ) → PlaceTells r values p before after → PlaceTells s values' p before after' → (r ≡ s) × (values ≡ values') × (after ≡ after')
+pub one_placed : (r s : ℕ) (values values' : List ℕ) (p : Result Point Refusal) (before after after' : List ℤ) → PlaceTells r values p before after → PlaceTells s values' p before after' → (r ≡ s) × (values ≡ values') × (after ≡ after')
 one_placed r s values values' p before after after' t u =
     let told = one_told r s values values' _ t.tells u.tells in
     (told.0, told.1, t.left ∙ sym u.left)

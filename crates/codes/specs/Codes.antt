@@ -1,11 +1,12 @@
 -- How an answer is told to other languages: a kind and eight values, of which those that are not used are 0. include/launchramp.h has the same. Assumes nothing.
-use Rattle.std.specs.Prelude.{ℕ, suc, List, [], ◌∷◌, ◌≡◌, ℤ, pos, negsuc}
+use Rattle.std.specs.Prelude.{ℕ, suc, List, [], ◌∷◌, ◌≡◌, ℤ, pos, negsuc, Result, Ok, Err}
 use Rattle.ring.specs.Locate.{Touch, vertex, edge, Place, on, off, refused}
 use Rattle.districts.specs.Answers as Answers
 use Rattle.districts.specs.Answers.{Belongs, border, one, none, several, Answer, report}
 use Rattle.refusals.specs.Verdicts.{Verdict, accept, refuse}
-use Rattle.fixes.specs.declared.Placed.{Placed}
-use Rattle.fixes.specs.declared.Placed.TheVariants.{OnGrid, BeyondGrid, NotFinite}
+use Rattle.ring.specs.declared.Point.{Point}
+use Rattle.refusals.specs.declared.Refusal.{Refusal}
+use Rattle.refusals.specs.Numbers.{number_of}
 use Rattle.changes.specs.Answers as Changes
 
 pub record Code : Type 0 where
@@ -66,10 +67,9 @@ answer_code (report r b) = class_code b
 answer_code (Answers.refused n) = refused_code n
 
 -- where a fix is; on the grid, its millimetres are told apart
-abbrev pub placed_code : Placed → Code
-placed_code (OnGrid x y) = done_code 0
-placed_code BeyondGrid = refused_code 5
-placed_code NotFinite = refused_code 18
+abbrev pub placed_code : Result Point Refusal → Code
+placed_code (Ok p) = done_code 0
+placed_code (Err r) = refused_code (number_of r)
 
 -- the kind is answered, and the values stand in the lent list
 pub record Tells (r : ℕ) (lent : List ℕ) (c : Code) : Type 0 where
@@ -77,12 +77,11 @@ pub record Tells (r : ℕ) (lent : List ℕ) (c : Code) : Type 0 where
   pub values : lent ≡ c.values
 
 -- what a lent point is once a fix was placed
-abbrev pub point_for : Placed → List ℤ → List ℤ
-point_for (OnGrid x y) before = x ∷ y ∷ []
-point_for BeyondGrid before = before
-point_for NotFinite before = before
+abbrev pub point_for : Result Point Refusal → List ℤ → List ℤ
+point_for (Ok p) before = p.x ∷ p.y ∷ []
+point_for (Err r) before = before
 
 -- a fix that was placed
-pub record PlaceTells (r : ℕ) (values : List ℕ) (p : Placed) (before after : List ℤ) : Type 0 where
+pub record PlaceTells (r : ℕ) (values : List ℕ) (p : Result Point Refusal) (before after : List ℤ) : Type 0 where
   pub tells : Tells r values (placed_code p)
   pub left : after ≡ point_for p before

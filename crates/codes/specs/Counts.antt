@@ -1,5 +1,7 @@
 -- The tally as a list of 67 counts: One for the districts 0 to 63, then Border, None and Several. Assumes nothing.
-use Rattle.std.specs.Prelude.{ℕ, ◌≡◌, List, Bool, eqb, leb, get_or, take}
+use Rattle.std.specs.Prelude.{ℕ, ◌<◌, ◌≡◌, List, eqb, leb, get_or, take, Option, Some, None, Result, Ok, Err}
+use Rattle.refusals.specs.declared.Refusal.{Refusal}
+use Rattle.refusals.specs.Numbers.{number_of}
 use Rattle.ring.specs.Choices.{pick}
 use Rattle.districts.specs.Register.{numbers}
 use Rattle.districts.specs.Answers.{Belongs, border, one, none, several, Answer, report, refused}
@@ -29,6 +31,23 @@ pub record CountedBy (a b : Answer) (before after : List ℕ) : Type 0 where
   pub tally : tally_of after ≡ tallied (tally_of before) a
   pub answer : b ≡ answered (tally_of before) a
 
+-- the place of a count, as the code says it; where there is none it is the number of places
+abbrev pub place_in : Option ℕ → ℕ
+place_in (Some at) = at
+place_in None = counts
+
+abbrev pub IsPlace : Option ℕ → Type 0
+IsPlace (Some at) = at < counts
+IsPlace None = Unit {0}
+
+abbrev pub Stands : Option ℕ → ℕ → Type 0
+Stands r at = IsPlace r × (place_in r ≡ at)
+
+-- what raising a count answers to a report
+abbrev pub raised : Result (Unit {0}) Refusal → Answer → Answer
+raised (Ok u) a = a
+raised (Err r) a = refused (number_of r)
+
 -- the count at a place is raised, or it is full, as r tells: so every report whose count stands there is counted, or refused by 14
-abbrev pub Raises : ℕ → Bool → List ℕ → List ℕ → Type 0
-Raises at r before after = (n : ℕ) (b : Belongs) → at ≡ place_of b → CountedBy (report n b) (pick r (report n b) (refused 14)) before after
+abbrev pub Raises : Option ℕ → Result (Unit {0}) Refusal → List ℕ → List ℕ → Type 0
+Raises at r before after = (n : ℕ) (b : Belongs) → place_in at ≡ place_of b → CountedBy (report n b) (raised r (report n b)) before after

@@ -1,3 +1,4 @@
 pub mod Codes
+pub mod Kinds
 pub mod Counts
 pub mod Batches

@@ -1,11 +1,14 @@
 // The tally as a list of counts, raised in place.
-ghost use Rattle.std.specs.Prelude.{◌≡◌, ◌≤◌, length};
+ghost use Rattle.std.specs.Prelude.{◌≡◌};
 ghost use Rattle.districts.specs.Answers.{one, belongs, answer_of};
-ghost use Rattle.codes.specs.Counts.{counts, place_of, place_told, CountedBy, Raises};
+ghost use Rattle.codes.specs.Counts.{place_of, place_told, Stands, IsPlace, CountedBy, Raises};
 
-use crate::telling;
-use districts::{Assigned, Class, NUMBERS, Report};
+use crate::telling::Kind;
+use districts::{Class, NUMBERS, Report};
 use refusals::Refusal;
+
+// One for each district, then Border, None and Several.
+pub type Counts = [u32; 67];
 
 const BORDER: usize = 64;
 
@@ -13,76 +16,56 @@ const NONE: usize = 65;
 
 const SEVERAL: usize = 66;
 
-// How many counts there are: also the place of a class that has none.
-const COUNTS: usize = 67;
-
-fn place_of_one(d: usize) -> usize
-    ensures { result ≡ place_of (one d) }
+// A number above 63 has no count.
+fn place_of_one(d: usize) -> Option<usize>
+    ensures { Stands result (place_of (one d)) }
 {
-    if NUMBERS <= d { COUNTS } else { d }
+    if d < NUMBERS { Some(d) } else { None }
 }
 
-fn place(c: Class) -> usize
-    ensures { (result ≡ place_of (belongs c)) × (result ≤ counts) }
+// Where the count of a class stands.
+fn place(c: Class) -> Option<usize>
+    ensures { Stands result (place_of (belongs c)) }
 {
     match c {
-        Class::Border(_, _) => BORDER,
+        Class::Border(_, _) => Some(BORDER),
         Class::One(d) => place_of_one(d),
-        Class::None => NONE,
-        Class::Several(_, _) => SEVERAL,
+        Class::None => Some(NONE),
+        Class::Several(_, _) => Some(SEVERAL),
     }
 }
 
-// By an answer's kind, which is not that of a refusal, and its first value, as they are told.
-pub fn place_told(kind: u64, first: u64) -> usize
-    ensures { (result ≡ place_told kind first) × (result ≤ counts) }
+// By an answer's kind, which is not that of a refusal, and its first value: numbers of the caller's list, as they are told there.
+pub fn place_told(kind: u64, first: u64) -> Option<usize>
+    ensures { Stands result (place_told kind first) }
 {
-    if kind == telling::ONE as u64 {
+    if kind == Kind::One as u64 {
         return place_of_one(first as usize);
     }
-    if kind == telling::BORDER as u64 {
-        return BORDER;
+    if kind == Kind::Border as u64 {
+        return Some(BORDER);
     }
-    if kind == telling::NONE as u64 {
-        NONE
-    } else {
-        SEVERAL
+    if kind == Kind::None as u64 {
+        return Some(NONE);
     }
+    Some(SEVERAL)
 }
 
-// Raises the count at a place. False where it is full or there is none, and then nothing is raised.
-pub fn raise(at: usize, list: &mut [u32]) -> bool
-    requires { (length list.old ≡ counts) × (at ≤ counts) }
-    ensures { Raises at result list.old list.new }
+// Raises the count at a place, or refuses where it is full or there is none; then nothing is raised.
+pub fn raise(at: Option<usize>, counts: &mut Counts) -> Result<(), Refusal>
+    requires { IsPlace at }
+    ensures { Raises at result counts.old counts.new }
 {
-    if at == COUNTS {
-        return false;
-    }
-    let n = list[at];
-    if n == tally::MOST {
-        return false;
-    }
-    list[at] = n + 1;
-    true
-}
-
-fn sorted(report: Report, list: &mut [u32]) -> Assigned
-    requires { length list.old ≡ counts }
-    ensures { CountedBy (answer_of (Assigned.Sorted report)) (answer_of result) list.old list.new }
-{
-    let class = report.class;
-    if raise(place(class), list) {
-        return Assigned::Sorted(report);
-    }
-    Assigned::Refused(Refusal::CountFull)
+    let place = at.ok_or(Refusal::CountFull)?;
+    counts[place] = counts[place].checked_add(1).ok_or(Refusal::CountFull)?;
+    Ok(())
 }
 
 // Counts an assigned report, and answers it, or refusal 14 where its count is full. A refusal passes through and is not counted.
-pub fn counted(a: Assigned, list: &mut [u32; 67]) -> Assigned
-    ensures { CountedBy (answer_of a) (answer_of result) list.old list.new }
+pub fn counted(a: Result<Report, Refusal>, counts: &mut Counts) -> Result<Report, Refusal>
+    ensures { CountedBy (answer_of a) (answer_of result) counts.old counts.new }
 {
-    match a {
-        Assigned::Sorted(report) => sorted(report, list),
-        Assigned::Refused(_) => a,
-    }
+    let report = a?;
+    raise(place(report.class), counts)?;
+    Ok(report)
 }

@@ -8,5 +8,5 @@ mod counting;
 mod telling;
 
 pub use batches::{assign_all, assign_all_counted};
-pub use counting::counted;
-pub use telling::{Values, assigned, changed, founded, judged, place, placed};
+pub use counting::{Counts, counted};
+pub use telling::{Values, assigned, changed, judged, place, placed};

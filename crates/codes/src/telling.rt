@@ -1,51 +1,45 @@
 // Telling an answer: its kind, and its values in a lent list of eight.
+ghost use Rattle.std.specs.Prelude.{ℕ, ◌≡◌};
 ghost use Rattle.ring.specs.Locate.{touch_of, place_of};
 ghost use Rattle.refusals.specs.Numbers.{number_of};
 ghost use Rattle.refusals.specs.Verdicts.{verdict_of};
 ghost use Rattle.districts.specs.Answers.{belongs, answer_of};
-ghost use Rattle.register.specs.Calls.{outcome_of};
 ghost use Rattle.changes.specs.Answers as Changes;
 ghost use Rattle.codes.specs.Codes.{code, refused_code, off_code, touch_code, place_code, verdict_code, change_code, border_code, on_border_code, class_code, answer_code, Tells, PlaceTells};
+ghost use Rattle.codes.specs.Kinds.{kind_of};
 
-use changes::Changed;
-use districts::{Assigned, Class};
-use fixes::Placed;
-use refusals::{Refusal, Verdict};
-use register::Founded;
-use ring::{Located, Touch, Winding};
+use districts::{Class, Report};
+use refusals::Refusal;
+use ring::{Place, Point, Touch, Winding};
 
 // What an answer's values are written to; include/launchramp.h has their number too.
 pub type Values = [u64; 8];
 
-pub const REFUSED: u32 = 0;
+// The kinds of answers, by the numbers that include/launchramp.h has.
+#[derive(Clone, Copy, PartialEq, Eq)]
+pub enum Kind {
+    Refused = 0,
+    Done = 1,
+    Vertex = 2,
+    Edge = 3,
+    Off = 4,
+    Border = 5,
+    One = 6,
+    None = 7,
+    Several = 8,
+}
 
-const DONE: u32 = 1;
-
-const VERTEX: u32 = 2;
-
-const EDGE: u32 = 3;
-
-const OFF: u32 = 4;
-
-pub const BORDER: u32 = 5;
-
-pub const ONE: u32 = 6;
-
-pub const NONE: u32 = 7;
-
-const SEVERAL: u32 = 8;
-
-fn told(kind: u32, a: usize, b: usize, values: &mut Values) -> u32
-    ensures { Tells result values.new (code kind a b) }
+fn told(kind: Kind, a: usize, b: usize, values: &mut Values) -> u32
+    ensures { Tells result values.new (code (kind_of kind) a b) }
 {
     *values = [a as u64, b as u64, 0, 0, 0, 0, 0, 0];
-    kind
+    kind as u32
 }
 
 fn refused(r: Refusal, values: &mut Values) -> u32
     ensures { Tells result values.new (refused_code (number_of r)) }
 {
-    told(REFUSED, refusals::number(r), 0, values)
+    told(Kind::Refused, r.number(), 0, values)
 }
 
 // A winding number as its size, and 1 where it is negative.
@@ -54,24 +48,34 @@ fn off(w: Winding, values: &mut Values) -> u32
 {
     let turns = w.0 as i64;
     if turns < 0 {
-        return told(OFF, (0 - turns) as usize, 1, values);
+        return told(Kind::Off, (0 - turns) as usize, 1, values);
     }
-    told(OFF, turns as usize, 0, values)
+    told(Kind::Off, turns as usize, 0, values)
+}
+
+// At vertices or on edges, from the lowest index to the highest.
+fn span(t: Touch) -> (Kind, usize, usize)
+    ensures ring { touch_code (touch_of t) ≡ code (kind_of result.0) result.1 result.2 }
+    ensures border { (d : ℕ) → on_border_code d (touch_of t) ≡ border_code d (kind_of result.0) result.1 result.2 }
+{
+    match t {
+        Touch::Vertex(lowest, highest) => (Kind::Vertex, lowest, highest),
+        Touch::Edge(lowest, highest) => (Kind::Edge, lowest, highest),
+    }
 }
 
 fn touched(t: Touch, values: &mut Values) -> u32
     ensures { Tells result values.new (touch_code (touch_of t)) }
 {
-    match t {
-        Touch::Vertex(lowest, highest) => told(VERTEX, lowest, highest, values),
-        Touch::Edge(lowest, highest) => told(EDGE, lowest, highest, values),
-    }
+    let (kind, lowest, highest) = span(t);
+    told(kind, lowest, highest, values)
 }
 
-// On the ring of district d, at vertices or on edges as `kind` tells.
-fn bordered(d: usize, kind: u32, lowest: usize, highest: usize, values: &mut Values) -> u32
-    ensures { Tells result values.new (border_code d kind lowest highest) }
+// On the ring of district d.
+fn on_border(d: usize, t: Touch, values: &mut Values) -> u32
+    ensures { Tells result values.new (on_border_code d (touch_of t)) }
 {
+    let (kind, lowest, highest) = span(t);
     *values = [
         d as u64,
         0,
@@ -82,52 +86,35 @@ fn bordered(d: usize, kind: u32, lowest: usize, highest: usize, values: &mut Val
         0,
         0,
     ];
-    BORDER
+    Kind::Border as u32
 }
 
-fn on_border(d: usize, t: Touch, values: &mut Values) -> u32
-    ensures { Tells result values.new (on_border_code d (touch_of t)) }
-{
-    match t {
-        Touch::Vertex(lowest, highest) => bordered(d, VERTEX, lowest, highest, values),
-        Touch::Edge(lowest, highest) => bordered(d, EDGE, lowest, highest, values),
-    }
-}
-
-pub fn place(p: Located, values: &mut Values) -> u32
+pub fn place(p: Result<Place, Refusal>, values: &mut Values) -> u32
     ensures { Tells result values.new (place_code (place_of p)) }
 {
     match p {
-        Located::On(touch) => touched(touch, values),
-        Located::Off(w, _) => off(w, values),
-        Located::Refused(r) => refused(r, values),
+        Ok(Place::On(touch)) => touched(touch, values),
+        Ok(Place::Off(w, _)) => off(w, values),
+        Err(r) => refused(r, values),
     }
 }
 
-pub fn founded(f: Founded, values: &mut Values) -> u32
-    ensures { Tells result values.new (verdict_code (outcome_of f)) }
-{
-    match f {
-        Founded::Done => told(DONE, 0, 0, values),
-        Founded::Refused(n) => refused(n, values),
-    }
-}
-
-pub fn judged(v: Verdict, values: &mut Values) -> u32
+// Done, where nothing is answered.
+pub fn judged(v: Result<(), Refusal>, values: &mut Values) -> u32
     ensures { Tells result values.new (verdict_code (verdict_of v)) }
 {
     match v {
-        Verdict::Accepted => told(DONE, 0, 0, values),
-        Verdict::Refused(r) => refused(r, values),
+        Ok(()) => told(Kind::Done, 0, 0, values),
+        Err(r) => refused(r, values),
     }
 }
 
-pub fn changed(c: Changed, values: &mut Values) -> u32
+pub fn changed(c: Result<usize, Refusal>, values: &mut Values) -> u32
     ensures { Tells result values.new (change_code (Changes.answer_of c)) }
 {
     match c {
-        Changed::Done(d) => told(DONE, d, 0, values),
-        Changed::Refused(n) => refused(n, values),
+        Ok(d) => told(Kind::Done, d, 0, values),
+        Err(r) => refused(r, values),
     }
 }
 
@@ -136,34 +123,30 @@ fn class(c: Class, values: &mut Values) -> u32
 {
     match c {
         Class::Border(d, touch) => on_border(d, touch, values),
-        Class::One(d) => told(ONE, d, 0, values),
-        Class::None => told(NONE, 0, 0, values),
-        Class::Several(d, n) => told(SEVERAL, d, n, values),
+        Class::One(d) => told(Kind::One, d, 0, values),
+        Class::None => told(Kind::None, 0, 0, values),
+        Class::Several(d, n) => told(Kind::Several, d, n, values),
     }
 }
 
-pub fn assigned(a: Assigned, values: &mut Values) -> u32
+pub fn assigned(a: Result<Report, Refusal>, values: &mut Values) -> u32
     ensures { Tells result values.new (answer_code (answer_of a)) }
 {
     match a {
-        Assigned::Sorted(report) => {
-            let c = report.class;
-            class(c, values)
-        }
-        Assigned::Refused(n) => refused(n, values),
+        Ok(report) => class(report.class, values),
+        Err(r) => refused(r, values),
     }
 }
 
 // A fix on the grid is written to `point`; otherwise that stays as it was.
-pub fn placed(p: Placed, point: &mut [i32; 2], values: &mut Values) -> u32
+pub fn placed(p: Result<Point, Refusal>, point: &mut [i32; 2], values: &mut Values) -> u32
     ensures { PlaceTells result values.new p point.old point.new }
 {
     match p {
-        Placed::OnGrid(x, y) => {
-            *point = [x, y];
-            told(DONE, 0, 0, values)
+        Ok(at) => {
+            *point = [at.x, at.y];
+            told(Kind::Done, 0, 0, values)
         }
-        Placed::BeyondGrid => refused(Refusal::BeyondGrid, values),
-        Placed::NotFinite => refused(Refusal::NotFinite, values),
+        Err(r) => refused(r, values),
     }
 }

@@ -1,4 +1,3 @@
-pub mod Spots
 pub mod Sides
 pub mod Scans
 pub mod Pairs

@@ -12,20 +12,19 @@ use lib.IntN.{ℤ, pos, ◌+ℤ◌, +ℤ_comm, +ℤ_idl, +ℤ_idr}
 use lib.Signed.{lt_z}
 use Rattle.ring.specs.declared.Point.{Point}
 use Rattle.ring.specs.declared.counting.Count.{Count}
-use Rattle.ring.specs.Columns.{points}
+use Rattle.ring.specs.Columns.{points, IsRing}
 use Rattle.ring.specs.Rings.{at, Weight, total, ring_sum}
 use Rattle.ring.specs.Crossings.{crossing}
 use Rattle.ring.specs.Turns.{winding}
 use Rattle.ring.specs.Segment.{on_segment}
 use Rattle.ring.specs.Locate.{on_edge}
 use Rattle.ring.specs.Walk.{Counts, none, Counted, Free}
-use Rattle.ring.proofs.Columns.{length-points, point_at}
+use Rattle.ring.proofs.Points.{length-points, point_at}
 use Rattle.ring.proofs.Crossings.{above-row, below_row, crossings-winding}
 use Rattle.ring.proofs.Sums.{total_falls}
 use Rattle.ring.proofs.Vertices.{at-end}
 use Rattle.columns.specs.declared.rows.Crossed.{Crossed}
 use Rattle.columns.specs.Rows.{preceding, low_at, apart_at, rises_to, falls_to, Scanned, Twice}
-use Rattle.columns.specs.Walk.{Ready}
 use Rattle.columns.proofs.Scans.{Only, only_one}
 
 -- ---- the vertex before another, and the edge from it
@@ -148,12 +147,12 @@ not-both : (a b : Bool) → (a && not b) ≡ true → (not a && b) ≡ true → 
 not-both true b g h = true≢false (sym h)
 not-both false b g h = true≢false (sym g)
 
-module _ (xs ys : List ℤ) (R : Point) (ready : Ready xs ys R) (s : Crossed) (scanned : Scanned ys R.y s) (twice : Twice s) (up down : ℕ) (rises : s.rises ≡ 65536 + up) (falls : s.falls ≡ 65536 + down) where
+module _ (xs ys : List ℤ) (R : Point) (ring : IsRing xs ys) (s : Crossed) (scanned : Scanned ys R.y s) (twice : Twice s) (up down : ℕ) (rises : s.rises ≡ 65536 + up) (falls : s.falls ≡ 65536 + down) where
   abbrev P : List Point
   P = points xs ys
 
   abbrev even : length xs ≡ length ys
-  even = ready.clean.even
+  even = ring.even
 
   rising : Only (rises_to ys R.y) (length ys) up
   rising = only_one (rises_to ys R.y) (length ys) s.rises up scanned.rises twice.rises rises

@@ -1,14 +1,12 @@
 // Counting crossings round a ring after one pass over its column of y. Most rings of some dozens of vertices are crossed by r's row twice, once upward and
 // once downward, and have no vertex on it: only those two edges count then. Other rings are walked along.
-ghost use Rattle.std.specs.Prelude.{◌≡◌, true, ◌+◌, ◌<◌, ◌≤◌, length};
+ghost use Rattle.std.specs.Prelude.{◌≡◌, true, ◌+◌, ◌<◌, ◌≤◌, nat_abs, length};
 ghost use Rattle.ring.specs.Choices.{pick};
-ghost use Rattle.ring.specs.Columns.{points};
-ghost use Rattle.ring.specs.Walk.{Counted};
-ghost use Rattle.columns.specs.Walk.{Ready};
-ghost use Rattle.columns.specs.Rows.{Scanned, One, Twice};
+ghost use Rattle.ring.specs.Held.{points_of};
+ghost use Rattle.ring.specs.Walk.{OnGrid, head_of, most_turns, Counts, Counted};
+ghost use Rattle.columns.specs.Rows.{preceding, Scanned, One, Twice};
 
-use crate::counting::{blocks, each, edge_to};
-use ring::{Count, Point};
+use ring::{Columns, Count, Point};
 
 // A smaller ring is walked along as quickly as it is scanned, and of a larger one blocks are passed over as quickly.
 const FEWEST_SCANNED: usize = 20;
@@ -38,22 +36,18 @@ fn scan(ys: &[i32], v: i32) -> Crossed
     requires { (0 < length ys.now) × (length ys.now ≤ 2048) }
     ensures { Scanned ys.now v result }
 {
-    let n = ys.len();
     let mut rises = 0;
     let mut falls = 0;
     let mut apart = true;
-    let mut low = ys[n - 1] < v;
+    let mut low = ys[ys.len() - 1] < v;
     let mut mark = CROSSING;
-    let mut j = 0;
-    while j < n {
-        let y = ys[j];
-        let next = y < v;
+    for y in ys {
+        let next = *y < v;
         rises = rises + weight(low & !next, mark);
         falls = falls + weight(!low & next, mark);
-        apart = apart & (next | (v < y));
+        apart = apart & (next | (v < *y));
         low = next;
         mark += 1;
-        j += 1;
     }
     Crossed {
         rises,
@@ -84,28 +78,47 @@ fn to(weight: u32) -> usize
     (weight - CROSSING) as usize
 }
 
-// All edges of a ring, by a scan.
-fn scanned(xs: &[i32], ys: &[i32], r: Point) -> Count
-    requires { Ready xs.now ys.now r }
-    ensures { Counted (points xs.now ys.now) r result }
+// The vertex before vertex j of a ring of n.
+fn previous(n: usize, j: usize) -> usize
+    requires { j < n }
+    ensures { result ≡ preceding n j }
 {
-    let s = scan(ys, r.y);
+    if 0 < j { j - 1 } else { n - 1 }
+}
+
+// On from c along the edge that leads to vertex j.
+fn edge_to(ring: &Columns, r: exact::Arrow, j: usize, c: Count) -> Count
+    requires on_grid { OnGrid (head_of r) }
+    requires j_in_bounds { j < length ring.now.xs.now }
+    requires turns_bound { nat_abs c.turns ≤ most_turns }
+    ensures { Counts (points_of ring.now) (head_of r) (preceding (length ring.now.xs.now) j) 1 c result }
+{
+    let i = previous(ring.xs.len(), j);
+    c.along(ring::seen(ring, r, i), ring::seen(ring, r, j))
+}
+
+// All edges of a ring, by a scan.
+fn scanned(ring: &Columns, r: Point) -> Count
+    requires { OnGrid r }
+    ensures { Counted (points_of ring.now) r result }
+{
+    let s = scan(ring.ys, r.y);
     let w = ring::wide(r);
     if twice(s) {
-        let risen = edge_to(xs, ys, w, to(s.rises), Count { turns: 0, clear: 1 });
-        return edge_to(xs, ys, w, to(s.falls), risen);
+        let risen = edge_to(ring, w, to(s.rises), Count { turns: 0, clear: 1 });
+        return edge_to(ring, w, to(s.falls), risen);
     }
-    each(xs, ys, w)
+    ring::each(ring, w)
 }
 
 // All edges of a ring. It is the column of y that is asked for its length: the compiler then knows how long the scan is.
-pub fn around(xs: &[i32], ys: &[i32], r: Point) -> Count
-    requires { Ready xs.now ys.now r }
-    ensures { Counted (points xs.now ys.now) r result }
+pub fn around(ring: &Columns, r: Point) -> Count
+    requires { OnGrid r }
+    ensures { Counted (points_of ring.now) r result }
 {
-    let n = ys.len();
+    let n = ring.ys.len();
     if (n < FEWEST_SCANNED) | (MOST_SCANNED < n) {
-        return blocks(xs, ys, r);
+        return ring::blocks(ring, r);
     }
-    scanned(xs, ys, r)
+    scanned(ring, r)
 }

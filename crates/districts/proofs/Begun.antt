@@ -1,28 +1,32 @@
--- What `usable`, with whose two tests a call begins, tells of the lists and of the tests behind them. Assumes nothing.
+-- What `begun`, with whose two tests a call begins, tells of the lists and of the tests behind them. Assumes nothing.
 use Prim.Native.Nat.{ℕ}
 use mathlib.Core.Path.{◌≡◌, sym, ap, ◌∙◌}
-use mathlib.Core.Bool.{Bool, true}
+use mathlib.Core.Bool.{true, false, not}
 use mathlib.Core.List.{List, ◌++◌}
-use borrow.Author.Tests.{not-false}
-use Rattle.refusals.specs.declared.Verdict as Code
-use Rattle.refusals.specs.declared.Verdict.TheVariants.{Accepted}
-use Rattle.refusals.specs.Verdicts.{Test, Verdict, refuse, verdict, verdict_of}
-use Rattle.refusals.proofs.Verdicts.{accepted, stops-early, passes-first}
-use Rattle.ring.specs.declared.Point.{Point}
-use Rattle.districts.specs.Lists.{meaning}
+use borrow.Author.Tests.{eq-eqb, ne_eqb, not-false}
+use Rattle.refusals.specs.Verdicts.{Test, Verdict, accept, refuse, verdict}
+use Rattle.refusals.proofs.Verdicts.{accepted, stops-early, passes-first, stops_at, passes, passed-all}
+use Rattle.districts.specs.Lists.{outline_size}
 use Rattle.districts.specs.Lent.{Lists, outline_of, store_of, formed, means, beginning}
+use Rattle.districts.proofs.Lent.{no-outline}
 
--- what is known of the lists is so: then the two tests are those of the lists
-pub begins-so : (l : Lists) (good : Bool) (r : Code.Verdict) → good ≡ formed l → ((outline store : List Point) → verdict_of r ≡ verdict (beginning good (meaning outline store l.runs))) → verdict_of r ≡ verdict (beginning (formed l) (means l))
-begins-so l good r known said = said (outline_of l) (store_of l) ∙ ap (λ b. verdict (beginning b (means l))) known
+module _ (l : Lists) where
+  -- the two tests, decided
+  pub not-formed : formed l ≡ false → verdict (beginning (formed l) (means l)) ≡ refuse 1
+  not-formed e = stops_at 1 _ _ (ap not e)
 
-module _ (l : Lists) (r : Code.Verdict) (said : verdict_of r ≡ verdict (beginning (formed l) (means l))) where
-  pub begun-formed : r ≡ Accepted → formed l ≡ true
-  begun-formed e = not-false _ (accepted 1 _ _ (sym said ∙ ap verdict_of e)).0
+  pub no-outline-there : formed l ≡ true → outline_size l.runs ≡ 0 → verdict (beginning (formed l) (means l)) ≡ refuse 2
+  no-outline-there e z = passes 1 _ _ (ap not e) ∙ stops_at 2 _ _ (no-outline (outline_of l) (store_of l) l.runs ∙ eq-eqb _ 0 z)
+
+  pub outline-there : formed l ≡ true → (outline_size l.runs ≡ 0 → ⊥) → verdict (beginning (formed l) (means l)) ≡ accept
+  outline-there e z = passes 1 _ _ (ap not e) ∙ passes 2 _ _ (no-outline (outline_of l) (store_of l) l.runs ∙ ne_eqb _ 0 z) ∙ passed-all
+
+  pub begun-formed : verdict (beginning (formed l) (means l)) ≡ accept → formed l ≡ true
+  begun-formed e = not-false _ (accepted 1 _ _ e).0
 
   -- the tests behind them decide, or one of the two has
-  pub begun-passed : r ≡ Accepted → (ts : List Test) (v : Verdict) → v ≡ verdict ts → v ≡ verdict (beginning (formed l) (means l) ++ ts)
-  begun-passed e ts v f = f ∙ sym (passes-first (beginning (formed l) (means l)) ts (sym said ∙ ap verdict_of e))
+  pub begun-passed : verdict (beginning (formed l) (means l)) ≡ accept → (ts : List Test) (v : Verdict) → v ≡ verdict ts → v ≡ verdict (beginning (formed l) (means l) ++ ts)
+  begun-passed e ts v f = f ∙ sym (passes-first (beginning (formed l) (means l)) ts e)
 
-  pub begun-refused : (n : ℕ) → verdict_of r ≡ refuse n → (ts : List Test) → refuse n ≡ verdict (beginning (formed l) (means l) ++ ts)
-  begun-refused n e ts = sym (stops-early n (beginning (formed l) (means l)) ts (sym said ∙ e))
+  pub begun-refused : (n : ℕ) → verdict (beginning (formed l) (means l)) ≡ refuse n → (ts : List Test) → refuse n ≡ verdict (beginning (formed l) (means l) ++ ts)
+  begun-refused n e ts = sym (stops-early n (beginning (formed l) (means l)) ts e)

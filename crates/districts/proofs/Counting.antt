@@ -4,7 +4,7 @@ use native.Mathlib.Numerals.{add-one}
 use native.Mathlib.Decide.{dec_lt, ℕ_discrete}
 use native.Mathlib.Omega.{arith}
 use mathlib.Core.Path.{◌≡◌, refl, sym, ap, subst, ◌∙◌}
-use mathlib.Core.Bool.{Bool, true, false, ◌&&◌}
+use mathlib.Core.Bool.{Bool, true, ◌&&◌, and-true}
 use Rattle.districts.proofs.Tests.{both_left, both_right}
 use Rattle.districts.specs.Counts.{all_to, sum_to}
 
@@ -15,10 +15,6 @@ all_none p = refl
 pub all_more : (p : ℕ → Bool) (n : ℕ) (good b : Bool) → good ≡ all_to n p → b ≡ p n → (good && b) ≡ all_to (n + 1) p
 unfolding all_to
 all_more p n good b e f = (λ i. e i && f i) ∙ ap (λ k. all_to k p) (sym (add-one n))
-
--- d has come to the bound
-pub all_end : (p : ℕ → Bool) (n d : ℕ) (good : Bool) → good ≡ all_to d p → d ≤ n → n ≤ d → good ≡ all_to n p
-all_end p n d good e h k = let same : d ≡ n = omega arith in subst (λ (m : ℕ). good ≡ all_to m p) same e
 
 -- a test that passes everywhere
 pub all_pass : (p : ℕ → Bool) (n : ℕ) → ((k : ℕ) → k < n → p k ≡ true) → all_to n p ≡ true
@@ -39,9 +35,6 @@ sum-none f = refl
 pub sum_more : (f : ℕ → ℕ) (n s k : ℕ) → s ≡ sum_to n f → k ≡ f n → s + k ≡ sum_to (n + 1) f
 unfolding sum_to
 sum_more f n s k e d = (λ i. e i + d i) ∙ ap (λ m. sum_to m f) (sym (add-one n))
-
-pub sum-end : (f : ℕ → ℕ) (n d s : ℕ) → s ≡ sum_to d f → d ≤ n → n ≤ d → s ≡ sum_to n f
-sum-end f n d s e h k = let same : d ≡ n = omega arith in subst (λ (m : ℕ). s ≡ sum_to m f) same e
 
 sum-grows : (f : ℕ → ℕ) (d n : ℕ) → d ≤ n → sum_to d f ≤ sum_to n f
 unfolding sum_to
@@ -71,6 +64,10 @@ term-past f (suc n) d k h l = elim (ℕ_discrete k n) [
 
 -- ---- a loop that adds up terms and stops once it has them all: s is the sum of the first d
 
+-- with the term at d it has at most all
+pub sum-with : (f : ℕ → ℕ) (n d s k : ℕ) → s ≡ sum_to d f → d < n → k ≡ f d → s + k ≤ sum_to n f
+sum-with f n d s k e h t = let past : sum_to d f + f d ≤ sum_to n f = term-past f n d d (omega arith) h in omega arith
+
 -- as long as s is less there is a term left
 pub term-left : (f : ℕ → ℕ) (n d s : ℕ) → s ≡ sum_to d f → d ≤ n → s < sum_to n f → d < n
 term-left f n d s e h l = elim (dec_lt d n) [
@@ -91,9 +88,5 @@ unfolding all_to
 all_rest p zero d h rest = ap (λ m. all_to m p) (let e : d ≡ 0 = omega arith in e)
 all_rest p (suc n) d h rest = elim (ℕ_discrete d (suc n)) [
   | yes same ↦ ap (λ m. all_to m p) same
-  | no other ↦ all_rest p n d (omega arith) (λ k l m. rest k l (omega arith)) ∙ sym ((λ i. all_to n p && rest n (omega arith) (omega arith) i) ∙ kept (all_to n p))
+  | no other ↦ all_rest p n d (omega arith) (λ k l m. rest k l (omega arith)) ∙ sym ((λ i. all_to n p && rest n (omega arith) (omega arith) i) ∙ and-true (all_to n p))
 ]
-  where
-    kept : (b : Bool) → (b && true) ≡ b
-    kept true = refl
-    kept false = refl

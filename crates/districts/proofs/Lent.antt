@@ -2,7 +2,7 @@
 use Prim.Native.Nat.{ℕ, ◌+◌, ◌-◌, ◌≤◌, ◌<◌}
 use native.Mathlib.Omega.{arith}
 use mathlib.Core.Path.{◌≡◌, refl, sym, ap, ◌∙◌}
-use mathlib.Core.Bool.{Bool, true, false, not}
+use mathlib.Core.Bool.{Bool, true, false, not, not-not}
 use mathlib.Core.List.{List}
 use mathlib.Core.Logic.{◌⊎◌, inl, inr}
 use lib.Dec.{eqb}
@@ -11,7 +11,7 @@ use lib.ListN.{length, take, drop, length-take, length-drop}
 use Rattle.ring.specs.declared.Point.{Point}
 use Rattle.ring.specs.Choices.{pick}
 use Rattle.ring.specs.Columns.{points}
-use Rattle.ring.proofs.Columns.{points-take, points-drop}
+use Rattle.ring.proofs.Points.{points-take, points-drop}
 use Rattle.districts.specs.Register.{unused, ring, in_use}
 use Rattle.districts.specs.Lists.{outline_size, first_place, size, part, held, meaning}
 use Rattle.districts.specs.WellFormed.{total, counted}
@@ -62,11 +62,7 @@ outline-in-use outline store runs = held-in-use outline 0 (outline_size runs)
 
 -- refusal 2 is told by the outline's size
 pub no-outline : (outline store : List Point) (runs : List ℕ) → not (in_use (meaning outline store runs).outline) ≡ eqb (outline_size runs) 0
-no-outline outline store runs = ap not (outline-in-use outline store runs) ∙ twice (eqb (outline_size runs) 0)
-  where
-    twice : (b : Bool) → not (not b) ≡ b
-    twice true = refl
-    twice false = refl
+no-outline outline store runs = ap not (outline-in-use outline store runs) ∙ not-not (eqb (outline_size runs) 0)
 
 -- ---- the run of a district: the parts of the store's columns that are handed on
 

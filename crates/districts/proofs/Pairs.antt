@@ -12,7 +12,7 @@ use borrow.Author.Tests.{eq-eqb, ne_eqb}
 use Rattle.ring.specs.Choices.{pick}
 use Rattle.ring.specs.Grid.{some_beyond, vertices}
 use Rattle.ring.specs.Columns.{points, interleaved, Alike}
-use Rattle.ring.proofs.Columns.{points-are, interleaved-length, interleaved-take, interleaved-drop, interleaved-beyond, same-take}
+use Rattle.ring.proofs.Points.{points-are, interleaved-length, interleaved-take, interleaved-drop, interleaved-beyond, same-take}
 use Rattle.districts.specs.Counts.{list_to}
 use Rattle.districts.specs.Register.{unused, ring, Register, numbers}
 use Rattle.refusals.specs.Verdicts.{Verdict, accept, refuse}

@@ -4,8 +4,9 @@ use native.Mathlib.Omega.{arith}
 use mathlib.Core.Path.{◌≡◌, refl, sym, ap, ◌∙◌}
 use Rattle.districts.specs.declared.Class.{Class}
 use Rattle.districts.specs.declared.Class.TheVariants.{Border, One, None, Several}
-use Rattle.districts.specs.declared.Assigned.{Assigned}
-use Rattle.districts.specs.declared.Assigned.TheVariants.{Sorted, Refused}
+use Rattle.std.specs.Prelude.{Result, Ok, Err}
+use Rattle.refusals.specs.declared.Refusal.{Refusal}
+use Rattle.districts.specs.declared.Report.{Report}
 use Rattle.districts.specs.Answers.{Belongs, border, one, none, several, Answer, report, refused, belongs, answer_of}
 use Rattle.districts.specs.Register.{Register}
 use Rattle.districts.specs.Lent.{Lists, formed, means, Leaves}
@@ -26,15 +27,15 @@ class_back (One d) = refl
 class_back None = refl
 class_back (Several d n) = refl
 
-abbrev code_of : Answer → Assigned
-code_of (report r b) = Sorted (record { number = r; class = class_of b })
-code_of (refused n) = Refused (refusal_of n)
+abbrev code_of : Answer → Result Report Refusal
+code_of (report r b) = Ok (record { number = r; class = class_of b })
+code_of (refused n) = Err (refusal_of n)
 
-code-back : (a : Assigned) → code_of (answer_of a) ≡ a
-code-back (Sorted r) = λ i. Sorted (record { number = r.number; class = class_back r.class i })
-code-back (Refused r) = ap Refused (refusal-back r)
+code-back : (a : Result Report Refusal) → code_of (answer_of a) ≡ a
+code-back (Ok r) = λ i. Ok (record { number = r.number; class = class_back r.class i })
+code-back (Err r) = ap Err (refusal-back r)
 
-pub answer_of-injective : (a b : Assigned) → answer_of a ≡ answer_of b → a ≡ b
+pub answer_of-injective : (a b : Result Report Refusal) → answer_of a ≡ answer_of b → a ≡ b
 answer_of-injective a b e = sym (code-back a) ∙ ap code_of e ∙ code-back b
 
 pub both_left : (v w : Verdict) → v ≡ w → (g : Register) (before after after' : Lists) → Leaves v g before after → Leaves w g before after' → (means after ≡ means after') × (formed after ≡ formed after')

@@ -6,3 +6,4 @@ pub mod Lent
 pub mod Pairs
 pub mod Places
 pub mod Answers
+pub mod Held

@@ -3,19 +3,21 @@
 
 #![tactic(auto)]
 
+mod lists;
 mod packing;
 mod runs;
+mod store;
 
-ghost use Rattle.std.specs.Prelude.{◌≡◌, true, List, ◌≤◌, length};
+ghost use Rattle.std.specs.Prelude.{◌≡◌, ◌≤◌, length};
 ghost use Rattle.districts.specs.WellFormed.{shaped as shaped_lists, counted as counted_runs, total as total_of, within};
-ghost use Rattle.ring.specs.declared.Point.{Point};
-ghost use Rattle.districts.specs.Lists.{meaning};
-ghost use Rattle.districts.specs.Lent.{lent, formed, means, beginning};
-ghost use Rattle.refusals.specs.Verdicts.{verdict, verdict_of};
+ghost use Rattle.districts.specs.Lent.{formed};
+ghost use Rattle.districts.specs.Held.{lists_of};
 
-use refusals::{Refusal, Verdict};
+pub use lists::{Lists, ListsToChange, ListsToFound};
+use packing::Packing;
 use ring::Touch;
-pub use runs::{FIRST_PLACES, SIZES, first_place, outline_size, size, total};
+pub use runs::{FIRST_PLACES, Runs, SIZES};
+pub use store::Store;
 
 // How long the lists of a register are: each of the four columns, and the runs.
 pub const COLUMN_LENGTH: usize = 2048;
@@ -36,71 +38,47 @@ pub enum Class {
     Several(usize, usize),
 }
 
+// A report that was sorted.
 #[derive(Clone, Copy)]
 pub struct Report {
     pub number: u32,
     pub class: Class,
 }
 
-#[derive(Clone, Copy)]
-pub enum Assigned {
-    Sorted(Report),
-    Refused(Refusal),
-}
-
 // Whether the five lists are a well-formed register. It reads no free room.
-pub fn well_formed(ox: &[i32], oy: &[i32], sx: &[i32], sy: &[i32], runs: &[u32]) -> bool
-    ensures { result ≡ formed (lent ox.now oy.now sx.now sy.now runs.now) }
+#[tactic(auto, unfolding(crate::specs::WellFormed::well_formed))]
+pub fn well_formed(lists: &Lists) -> bool
+    ensures { result ≡ formed (lists_of lists.now) }
 {
-    if !shaped(ox, oy, sx, sy, runs) {
+    if !shaped(lists) {
         return false;
     }
-    let all = total(runs);
-    if !counted(runs, all) {
+    let runs = Runs { list: lists.runs };
+    let all = runs.total();
+    if !counted(&runs, all) {
         return false;
     }
-    if !packing::packed(runs, all) {
+    let packing = Packing { runs, all };
+    if !packing.packed() {
         return false;
     }
-    on_grid(ox, oy, outline_size(runs)) & on_grid(sx, sy, all)
+    on_grid(lists.ox, lists.oy, runs.outline_size()) & on_grid(lists.sx, lists.sy, all)
 }
 
-// Refusal 1 where the lists are known not to be well-formed, then 2 where there is no outline.
-pub fn begins(good: bool, runs: &[u32]) -> Verdict
-    requires { good ≡ true → length runs.now ≡ 129 }
-    ensures { (outline store : List Point) → verdict_of result ≡ verdict (beginning good (meaning outline store runs.now)) }
+fn shaped(lists: &Lists) -> bool
+    ensures { result ≡ shaped_lists lists.now.ox.now lists.now.oy.now lists.now.sx.now lists.now.sy.now lists.now.runs.now }
 {
-    if !good {
-        return Verdict::Refused(Refusal::NotWellFormed);
-    }
-    if outline_size(runs) == 0 {
-        return Verdict::Refused(Refusal::NoOutline);
-    }
-    Verdict::Accepted
+    ((lists.ox.len() == COLUMN_LENGTH) & (lists.oy.len() == COLUMN_LENGTH))
+        & (((lists.sx.len() == COLUMN_LENGTH) & (lists.sy.len() == COLUMN_LENGTH))
+            & (lists.runs.len() == RUNS_LENGTH))
 }
 
-// Refusal 1 where the lists are not well-formed, then 2 where there is no outline.
-pub fn usable(ox: &[i32], oy: &[i32], sx: &[i32], sy: &[i32], runs: &[u32]) -> Verdict
-    ensures { verdict_of result ≡ verdict (beginning (formed (lent ox.now oy.now sx.now sy.now runs.now)) (means (lent ox.now oy.now sx.now sy.now runs.now))) }
+fn counted(runs: &Runs, all: usize) -> bool
+    requires { all ≡ total_of runs.now.list.now }
+    ensures { result ≡ counted_runs runs.now.list.now }
 {
-    begins(well_formed(ox, oy, sx, sy, runs), runs)
-}
-
-fn shaped(ox: &[i32], oy: &[i32], sx: &[i32], sy: &[i32], runs: &[u32]) -> bool
-    ensures { result ≡ shaped_lists ox.now oy.now sx.now sy.now runs.now }
-{
-    ((ox.len() == COLUMN_LENGTH) & (oy.len() == COLUMN_LENGTH))
-        & (((sx.len() == COLUMN_LENGTH) & (sy.len() == COLUMN_LENGTH))
-            & (runs.len() == RUNS_LENGTH))
-}
-
-fn counted(runs: &[u32], all: usize) -> bool
-    requires runs_len { length runs.now ≡ 129 }
-    requires all_value { all ≡ total_of runs.now }
-    ensures { result ≡ counted_runs runs.now }
-{
-    let n = outline_size(runs);
-    (runs::allowed(n) & runs::all_allowed(runs))
+    let n = runs.outline_size();
+    (runs::allowed(n) & runs.all_allowed())
         & ((all <= ring::MOST_VERTICES) & ((1 <= n) | (all == 0)))
 }
 
@@ -110,10 +88,8 @@ fn on_grid(xs: &[i32], ys: &[i32], n: usize) -> bool
     ensures { result ≡ within xs.now ys.now n }
 {
     let mut good = true;
-    let mut i = 0;
-    while i < n {
-        good = good & !(ring::beyond(xs[i]) | ring::beyond(ys[i]));
-        i += 1;
+    for i in 0..n {
+        good &= !(ring::beyond(xs[i]) | ring::beyond(ys[i]));
     }
     good
 }

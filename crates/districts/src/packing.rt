@@ -1,96 +1,90 @@
 // Whether the runs of the districts lie in the store from its first place on, with no gap and no overlap, in any order of numbers.
 // A table says which run starts at a place. One has to start at place 0, and each has to end where one starts or at the end of all: then from run to run one comes
 // to the end, and over all of them, since the end is where their sizes add up to. That needs no walk from run to run, in which every step waits for the last.
-ghost use Rattle.std.specs.Prelude.{◌≡◌, ◌+◌, ◌<◌, ◌≤◌, length};
+ghost use Rattle.std.specs.Prelude.{◌≡◌, ◌+◌, ◌<◌, ◌≤◌};
 ghost use Rattle.districts.specs.Counts.{all_to};
 ghost use Rattle.districts.specs.Places.{Marked, met as met_place, joined as joined_run};
 ghost use Rattle.districts.specs.WellFormed.{packed as packed_runs, total as total_of};
 
-use crate::{first_place, size};
+use crate::{NUMBERS, Runs};
+use ring::MOST_VERTICES;
 
-// What the table holds at the start of number d's run; 0 says that none starts.
-fn mark_of(d: usize) -> u8
-    requires { d < 64 }
-    ensures { result ≡ d + 1 }
-{
-    (d + 1) as u8
+// Runs that have no more vertices than the store has places, and how many they have.
+#[derive(Clone, Copy)]
+pub struct Packing<'a> {
+    pub runs: Runs<'a>,
+    pub all: usize,
+    ghost sum: { all ≡ total_of runs.list.now },
+    ghost most: { all ≤ 2048 },
 }
 
-// Marks where d's run starts. An unused number has none, and one that starts beyond the store fits no packing.
-fn mark(runs: &[u32], starts: &mut [u8], d: usize)
-    requires runs_len { length runs.now ≡ 129 }
-    requires d_bound { d < 64 }
-    requires marked { Marked runs.now d starts.old }
-    ensures { Marked runs.now (d + 1) starts.new }
-{
-    let place = first_place(runs, d);
-    if (0 < size(runs, d)) & (place < ring::MOST_VERTICES) {
-        starts[place] = mark_of(d);
+impl Packing<'_> {
+    pub fn packed(&self) -> bool
+        ensures { result ≡ packed_runs self.now.runs.list.now }
+    {
+        let starts = self.starts();
+        self.met(&starts, 0) & self.all_joined(&starts)
     }
-}
 
-// Stops once all vertices are seen: the numbers left are unused.
-fn mark_all(runs: &[u32], starts: &mut [u8], all: usize)
-    requires runs_len { length runs.now ≡ 129 }
-    requires all_value { all ≡ total_of runs.now }
-    requires all_bound { all ≤ 2048 }
-    requires marked { Marked runs.now 0 starts.old }
-    ensures { Marked runs.now 64 starts.new }
-{
-    let mut seen = 0;
-    let mut d = 0;
-    while seen < all {
-        mark(runs, starts, d);
-        seen += size(runs, d);
-        d += 1;
+    // At each place the number of the run that starts there, plus 1; 0 where none does. Once all vertices are seen the numbers left are unused.
+    fn starts(&self) -> [u8; MOST_VERTICES]
+        ensures { Marked self.now.runs.list.now 64 result }
+    {
+        let mut starts = [0; MOST_VERTICES];
+        let mut seen = 0;
+        for d in 0..NUMBERS {
+            if seen == self.all {
+                break;
+            }
+            self.mark(&mut starts, d);
+            seen += self.runs.size(d);
+        }
+        starts
     }
-}
 
-// Whether a run starts at the place, or all end there.
-fn met(starts: &[u8], all: usize, place: usize) -> bool
-    requires { (length starts.now ≡ 2048) × (all ≤ 2048) }
-    ensures { result ≡ met_place starts.now all place }
-{
-    if place < all {
-        return 0 < starts[place];
+    // Marks where d's run starts. An unused number has none, and one that starts beyond the store fits no packing.
+    fn mark(&self, starts: &mut [u8; MOST_VERTICES], d: usize)
+        requires d_bound { d < 64 }
+        requires marked { Marked self.now.runs.list.now d starts.old }
+        ensures { Marked self.now.runs.list.now (d + 1) starts.new }
+    {
+        let place = self.runs.first_place(d);
+        if (0 < self.runs.size(d)) & (place < MOST_VERTICES) {
+            starts[place] = (d + 1) as u8;
+        }
     }
-    place == all
-}
 
-// Whether d is unused, or its run ends at such a place.
-fn joined(runs: &[u32], starts: &[u8], all: usize, d: usize) -> bool
-    requires runs_len { (length runs.now ≡ 129) × (d < 64) }
-    requires starts_len { (length starts.now ≡ 2048) × (all ≤ 2048) }
-    ensures { result ≡ joined_run runs.now starts.now all d }
-{
-    let n = size(runs, d);
-    (n == 0) | met(starts, all, first_place(runs, d) + n)
-}
-
-fn all_joined(runs: &[u32], starts: &[u8], all: usize) -> bool
-    requires runs_len { length runs.now ≡ 129 }
-    requires all_value { all ≡ total_of runs.now }
-    requires starts_len { (length starts.now ≡ 2048) × (all ≤ 2048) }
-    ensures { result ≡ all_to 64 (joined_run runs.now starts.now all) }
-{
-    let mut good = true;
-    let mut seen = 0;
-    let mut d = 0;
-    while seen < all {
-        good = good & joined(runs, starts, all, d);
-        seen += size(runs, d);
-        d += 1;
+    fn all_joined(&self, starts: &[u8; MOST_VERTICES]) -> bool
+        ensures { result ≡ all_to 64 (joined_run self.now.runs.list.now starts.now self.now.all) }
+    {
+        let mut good = true;
+        let mut seen = 0;
+        for d in 0..NUMBERS {
+            if seen == self.all {
+                break;
+            }
+            good &= self.joined(starts, d);
+            seen += self.runs.size(d);
+        }
+        good
     }
-    good
-}
 
-pub fn packed(runs: &[u32], all: usize) -> bool
-    requires runs_len { length runs.now ≡ 129 }
-    requires all_value { all ≡ total_of runs.now }
-    requires all_bound { all ≤ 2048 }
-    ensures { result ≡ packed_runs runs.now }
-{
-    let mut starts = [0u8; ring::MOST_VERTICES];
-    mark_all(runs, &mut starts, all);
-    met(&starts, all, 0) & all_joined(runs, &starts, all)
+    // Whether d is unused, or its run ends at such a place.
+    fn joined(&self, starts: &[u8; MOST_VERTICES], d: usize) -> bool
+        requires { d < 64 }
+        ensures { result ≡ joined_run self.now.runs.list.now starts.now self.now.all d }
+    {
+        let n = self.runs.size(d);
+        (n == 0) | self.met(starts, self.runs.first_place(d) + n)
+    }
+
+    // Whether a run starts at the place, or all end there.
+    fn met(&self, starts: &[u8; MOST_VERTICES], place: usize) -> bool
+        ensures { result ≡ met_place starts.now self.now.all place }
+    {
+        if place < self.all {
+            return 0 < starts[place];
+        }
+        place == self.all
+    }
 }

@@ -9,47 +9,54 @@ pub const FIRST_PLACES: usize = 1;
 
 pub const SIZES: usize = 65;
 
-fn wide(x: u32) -> usize
-    ensures { (result ≡ x) × (result < 2 ^ 32) }
-{
-    x as usize
+#[derive(Clone, Copy)]
+pub struct Runs<'a> {
+    pub list: &'a [u32],
+    ghost long: { length list.now ≡ 129 },
 }
 
-pub fn outline_size(runs: &[u32]) -> usize
-    requires { length runs.now ≡ 129 }
-    ensures { (result ≡ outline_size runs.now) × (result < 2 ^ 32) }
-{
-    wide(runs[0])
-}
-
-pub fn first_place(runs: &[u32], d: usize) -> usize
-    requires runs_len { length runs.now ≡ 129 }
-    requires d_bound { d < 64 }
-    ensures { (result ≡ first_place runs.now d) × (result < 2 ^ 32) }
-{
-    wide(runs[FIRST_PLACES + d])
-}
-
-pub fn size(runs: &[u32], d: usize) -> usize
-    requires runs_len { length runs.now ≡ 129 }
-    requires d_bound { d < 64 }
-    ensures { (result ≡ size_of runs.now d) × (result < 2 ^ 32) }
-{
-    wide(runs[SIZES + d])
-}
-
-// How many vertices all districts have.
-pub fn total(runs: &[u32]) -> usize
-    requires { length runs.now ≡ 129 }
-    ensures { result ≡ total_of runs.now }
-{
-    let mut sum = 0;
-    let mut d = 0;
-    while d < crate::NUMBERS {
-        sum += size(runs, d);
-        d += 1;
+impl Runs<'_> {
+    pub fn outline_size(&self) -> usize
+        ensures { (result ≡ outline_size self.now.list.now) × (result < 2 ^ 32) }
+    {
+        self.list[0] as usize
     }
-    sum
+
+    pub fn first_place(&self, d: usize) -> usize
+        requires { d < 64 }
+        ensures { (result ≡ first_place self.now.list.now d) × (result < 2 ^ 32) }
+    {
+        self.list[FIRST_PLACES + d] as usize
+    }
+
+    pub fn size(&self, d: usize) -> usize
+        requires { d < 64 }
+        ensures { (result ≡ size_of self.now.list.now d) × (result < 2 ^ 32) }
+    {
+        self.list[SIZES + d] as usize
+    }
+
+    // How many vertices all districts have.
+    pub fn total(&self) -> usize
+        ensures { result ≡ total_of self.now.list.now }
+    {
+        let mut sum = 0;
+        for d in 0..crate::NUMBERS {
+            sum += self.size(d);
+        }
+        sum
+    }
+
+    // It asks all numbers with no branch on what it reads: so the compiler takes some at a time.
+    pub fn all_allowed(&self) -> bool
+        ensures { result ≡ all_to 64 (λ d. sized (size_of self.now.list.now d)) }
+    {
+        let mut good = true;
+        for d in 0..crate::NUMBERS {
+            good &= allowed(self.size(d));
+        }
+        good
+    }
 }
 
 // Whether n vertices are no ring at all or one of the allowed size.
@@ -57,17 +64,4 @@ pub fn allowed(n: usize) -> bool
     ensures { result ≡ sized n }
 {
     (n == 0) | ((ring::FEWEST_VERTICES <= n) & (n <= ring::MOST_VERTICES))
-}
-
-pub fn all_allowed(runs: &[u32]) -> bool
-    requires { length runs.now ≡ 129 }
-    ensures { result ≡ all_to 64 (λ d. sized (size_of runs.now d)) }
-{
-    let mut good = true;
-    let mut d = 0;
-    while d < crate::NUMBERS {
-        good = good & allowed(size(runs, d));
-        d += 1;
-    }
-    good
 }

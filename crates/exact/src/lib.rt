@@ -20,32 +20,34 @@ pub struct Arrow {
 #[derive(Clone, Copy)]
 pub struct Det(pub Wide);
 
-// The way from (0, 0) to (x, y).
-pub fn way_to(x: i32, y: i32) -> Arrow
-    ensures { (result.x ≡ «x») × (result.y ≡ «y») }
-{
-    Arrow {
-        x: x as Wide,
-        y: y as Wide,
+impl Arrow {
+    // The way from (0, 0) to (x, y).
+    pub fn to(x: i32, y: i32) -> Arrow
+        ensures { (result.x ≡ «x») × (result.y ≡ «y») }
+    {
+        Arrow {
+            x: x as Wide,
+            y: y as Wide,
+        }
     }
-}
 
-// The way to (x, y) from the point that `from` leads to.
-pub fn between(from: Arrow, x: i32, y: i32) -> Arrow
-    requires { Short from }
-    ensures { (result.x ≡ «x» -ℤ from.x) × (result.y ≡ «y» -ℤ from.y) }
-{
-    Arrow {
-        x: x as Wide - from.x,
-        y: y as Wide - from.y,
+    // The way to (x, y) from the point that this one leads to.
+    pub fn between(self, x: i32, y: i32) -> Arrow
+        requires { Short self }
+        ensures { (result.x ≡ «x» -ℤ self.x) × (result.y ≡ «y» -ℤ self.y) }
+    {
+        Arrow {
+            x: x as Wide - self.x,
+            y: y as Wide - self.y,
+        }
     }
-}
 
-// The determinant p.x q.y - q.x p.y, which fits for arrows between points of the grid.
-pub fn determinant(p: Arrow, q: Arrow) -> Det
-    requires short { Short p }
-    requires short_2 { Short q }
-    ensures { result.0 ≡ cross p q }
-{
-    Det(p.x * q.y - q.x * p.y)
+    // The determinant self.x q.y - q.x self.y, which fits for arrows between points of the grid.
+    pub fn determinant(self, q: Arrow) -> Det
+        requires short { Short self }
+        requires q_short { Short q }
+        ensures { result.0 ≡ cross self q }
+    {
+        Det(self.x * q.y - q.x * self.y)
+    }
 }

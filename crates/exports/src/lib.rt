@@ -1,5 +1,5 @@
-// The calls for programs in other languages: numbers and lent lists only. No call has a `requires`. include/launchramp.h declares them; how
-// an answer is told is in crates/codes/specs/Codes.antt.
+// The calls for programs in other languages: numbers and lent lists only, so each call first makes one value of the lists. No call has a `requires`.
+// include/launchramp.h declares them; how an answer is told is in crates/codes/specs/Codes.antt.
 
 #![tactic(auto)]
 
@@ -13,9 +13,12 @@ ghost use Rattle.codes.specs.Codes.{place_code, answer_code, Tells, PlaceTells};
 ghost use Rattle.codes.specs.Batches.{BatchTells, BatchCounts};
 ghost use Rattle.exports.specs.Calls.{FoundTells, SplitTells, MergeTells, CountTells};
 
-use codes::Values;
+use changes::{Cut, Seam};
+use codes::{Counts, Values};
+use districts::{Lists, ListsToChange, ListsToFound};
 use fixes::Fix;
 use register::Position;
+use ring::Point;
 
 // Where a point lies against one ring.
 #[unsafe(no_mangle)]
@@ -36,7 +39,14 @@ pub extern "C" fn launchramp_well_formed(
 ) -> bool
     ensures { result ≡ formed (lent ox.now oy.now sx.now sy.now runs.now) }
 {
-    districts::well_formed(ox, oy, sx, sy, runs)
+    let lists = Lists {
+        ox,
+        oy,
+        sx,
+        sy,
+        runs,
+    };
+    districts::well_formed(&lists)
 }
 
 #[unsafe(no_mangle)]
@@ -51,7 +61,14 @@ pub extern "C" fn launchramp_found(
 ) -> u32
     ensures { FoundTells result values.new ring.now (lent ox.old oy.old sx.old sy.old runs.old) (lent ox.new oy.new sx.new sy.new runs.new) }
 {
-    codes::founded(register::found(ox, oy, sx, sy, runs, ring), values)
+    let mut lists = ListsToFound {
+        ox,
+        oy,
+        sx,
+        sy,
+        runs,
+    };
+    codes::judged(register::found(&mut lists, ring), values)
 }
 
 #[unsafe(no_mangle)]
@@ -69,7 +86,15 @@ pub extern "C" fn launchramp_split(
 ) -> u32
     ensures { SplitTells result values.new d i j path.now (lent ox.now oy.now sx.old sy.old runs.old) (lent ox.now oy.now sx.new sy.new runs.new) }
 {
-    codes::changed(changes::split(ox, oy, sx, sy, runs, d, i, j, path), values)
+    let mut lists = ListsToChange {
+        ox,
+        oy,
+        sx,
+        sy,
+        runs,
+    };
+    let cut = Cut { d, i, j };
+    codes::changed(changes::split(&mut lists, cut, path), values)
 }
 
 #[unsafe(no_mangle)]
@@ -88,10 +113,21 @@ pub extern "C" fn launchramp_merge(
 ) -> u32
     ensures { MergeTells result values.new kept a gone b k (lent ox.now oy.now sx.old sy.old runs.old) (lent ox.now oy.now sx.new sy.new runs.new) }
 {
-    codes::changed(
-        changes::merge(ox, oy, sx, sy, runs, kept, a, gone, b, k),
-        values,
-    )
+    let mut lists = ListsToChange {
+        ox,
+        oy,
+        sx,
+        sy,
+        runs,
+    };
+    let seam = Seam {
+        kept,
+        a,
+        gone,
+        b,
+        k,
+    };
+    codes::changed(changes::merge(&mut lists, seam), values)
 }
 
 // Sorts a report at a point. The caller knows its number.
@@ -108,7 +144,14 @@ pub extern "C" fn launchramp_assign(
 ) -> u32
     ensures { Tells result values.new (answer_code (assigned (formed (lent ox.now oy.now sx.now sy.now runs.now)) (means (lent ox.now oy.now sx.now sy.now runs.now)) 0 x y)) }
 {
-    codes::assigned(register::assign(ox, oy, sx, sy, runs, 0, x, y), values)
+    let lists = Lists {
+        ox,
+        oy,
+        sx,
+        sy,
+        runs,
+    };
+    codes::assigned(register::assign(&lists, 0, Point { x, y }), values)
 }
 
 // Sorts a report at a point, and counts it in a tally.
@@ -121,12 +164,19 @@ pub extern "C" fn launchramp_assign_counted(
     runs: &[u32],
     x: i32,
     y: i32,
-    counts: &mut [u32; 67],
+    counts: &mut Counts,
     values: &mut Values,
 ) -> u32
     ensures { CountTells result values.new (assigned (formed (lent ox.now oy.now sx.now sy.now runs.now)) (means (lent ox.now oy.now sx.now sy.now runs.now)) 0 x y) counts.old counts.new }
 {
-    let answer = register::assign(ox, oy, sx, sy, runs, 0, x, y);
+    let lists = Lists {
+        ox,
+        oy,
+        sx,
+        sy,
+        runs,
+    };
+    let answer = register::assign(&lists, 0, Point { x, y });
     codes::assigned(codes::counted(answer, counts), values)
 }
 
@@ -144,10 +194,14 @@ pub extern "C" fn launchramp_assign_all(
 ) -> u32
     ensures { BatchTells result values.new (lent ox.now oy.now sx.now sy.now runs.now) points.now answers.old answers.new }
 {
-    codes::judged(
-        codes::assign_all(ox, oy, sx, sy, runs, points, answers),
-        values,
-    )
+    let lists = Lists {
+        ox,
+        oy,
+        sx,
+        sy,
+        runs,
+    };
+    codes::judged(codes::assign_all(&lists, points, answers), values)
 }
 
 // The same, and counts each in a tally, as launchramp_assign_counted does point after point.
@@ -160,13 +214,20 @@ pub extern "C" fn launchramp_assign_all_counted(
     runs: &[u32],
     points: &[i32],
     answers: &mut [u64],
-    counts: &mut [u32; 67],
+    counts: &mut Counts,
     values: &mut Values,
 ) -> u32
     ensures { BatchCounts result values.new (lent ox.now oy.now sx.now sy.now runs.now) points.now answers.old answers.new counts.old counts.new }
 {
+    let lists = Lists {
+        ox,
+        oy,
+        sx,
+        sy,
+        runs,
+    };
     codes::judged(
-        codes::assign_all_counted(ox, oy, sx, sy, runs, points, answers, counts),
+        codes::assign_all_counted(&lists, points, answers, counts),
         values,
     )
 }
@@ -198,11 +259,15 @@ pub extern "C" fn launchramp_assign_fix(
 ) -> u32
     ensures { Tells result values.new (answer_code (assigned_at (formed (lent ox.now oy.now sx.now sy.now runs.now)) (means (lent ox.now oy.now sx.now sy.now runs.now)) 0 (Position.Fix (record { easting = easting; northing = northing })))) }
 {
+    let lists = Lists {
+        ox,
+        oy,
+        sx,
+        sy,
+        runs,
+    };
     let position = Position::Fix(Fix { easting, northing });
-    codes::assigned(
-        register::assign_at(ox, oy, sx, sy, runs, 0, position),
-        values,
-    )
+    codes::assigned(register::assign_at(&lists, 0, position), values)
 }
 
 // Sorts a report by a receiver's fix, and counts it in a tally.
@@ -215,13 +280,20 @@ pub extern "C" fn launchramp_assign_fix_counted(
     runs: &[u32],
     easting: f64,
     northing: f64,
-    counts: &mut [u32; 67],
+    counts: &mut Counts,
     values: &mut Values,
 ) -> u32
     ensures { CountTells result values.new (assigned_at (formed (lent ox.now oy.now sx.now sy.now runs.now)) (means (lent ox.now oy.now sx.now sy.now runs.now)) 0 (Position.Fix (record { easting = easting; northing = northing }))) counts.old counts.new }
 {
+    let lists = Lists {
+        ox,
+        oy,
+        sx,
+        sy,
+        runs,
+    };
     let position = Position::Fix(Fix { easting, northing });
-    let answer = register::assign_at(ox, oy, sx, sy, runs, 0, position);
+    let answer = register::assign_at(&lists, 0, position);
     codes::assigned(codes::counted(answer, counts), values)
 }
 
@@ -237,8 +309,12 @@ pub extern "C" fn launchramp_assign_missing(
 ) -> u32
     ensures { Tells result values.new (answer_code (assigned_at (formed (lent ox.now oy.now sx.now sy.now runs.now)) (means (lent ox.now oy.now sx.now sy.now runs.now)) 0 Position.Missing)) }
 {
-    codes::assigned(
-        register::assign_at(ox, oy, sx, sy, runs, 0, Position::Missing),
-        values,
-    )
+    let lists = Lists {
+        ox,
+        oy,
+        sx,
+        sy,
+        runs,
+    };
+    codes::assigned(register::assign_at(&lists, 0, Position::Missing), values)
 }

@@ -8,24 +8,25 @@ use mathlib.Core.Logic.{◌⊎◌, inl, inr}
 use mathlib.Core.Bool.{Bool, true, false, not, cond, or-false}
 use lib.Dec.{T, leb, ltb, eqb, lit≤, leb-suc-suc}
 use lib.Pow.{pow-add, pow_pos, pow_mono}
-use lib.Ieee.{Float, nan, inf, fin, up, down, binary64, odd, of_fields, of_bits, to_bits, fits, is_nan, ne}
+use lib.Ieee.{Float, nan, inf, fin, up, down, binary64, odd, of_fields, of_bits, to_bits, fits, is_nan}
 use lib.Ieee.Bits.{of_bits-to_bits}
 use lib.Ieee.Exact.{HasValue, odd_sign}
 use lib.Ieee.Fits.{down_pos}
 use borrow.Author.Tests.{ltb-false, ne_eqb, le-leb, lt-leb, lt-ltb}
+use Rattle.std.specs.Float.{float_is_finite}
 use Rattle.ring.specs.Grid.{beyond}
 use Rattle.ring.proofs.Pick.{pick_true, pick-false}
 use Rattle.fixes.specs.Nearest.{with_sign, finite, in_metre}
 use Rattle.fixes.specs.Millimetres.{rounded, millimetres, size_of, StandsFor}
 use Rattle.fixes.proofs.Closest.{rounded-same, at_least, at_most}
 
--- ---- a NaN, whose bits are not to be asked for
+-- ---- which doubles are finite; the bits of a NaN are not to be asked for
 
-pub same-not-nan : (x : Float) → ne x x ≡ false → T (not (is_nan x))
-unfolding is_nan ne
-same-not-nan nan e = subst T e tt
-same-not-nan (inf s) e = tt
-same-not-nan (fin s m k) e = tt
+pub is_finite-finite : (x : Float) → float_is_finite x ≡ finite x
+unfolding float_is_finite
+is_finite-finite nan = refl
+is_finite-finite (inf s) = refl
+is_finite-finite (fin s m k) = refl
 
 pub finite-not-nan : (x : Float) → finite x ≡ true → T (not (is_nan x))
 unfolding is_nan

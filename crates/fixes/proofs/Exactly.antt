@@ -10,11 +10,13 @@ use lib.IntN.{ℤ, pos, negsuc, neg_ℤ, nat_abs, ◌-ℤ◌, ◌*ℤ◌}
 use lib.Ieee.{Float, nan, inf, fin, up as numerator, down as denominator}
 use lib.Ieee.Fits.{down_pos}
 use Rattle.exact.proofs.Parts.{up, down, parts-neg, parts-sub, parts-mul, by_parts}
-use Rattle.ring.specs.Grid.{beyond}
+use Rattle.std.specs.Prelude.{Result, Ok, Err}
+use Rattle.refusals.specs.declared.Refusal.{Refusal}
+use Rattle.refusals.specs.declared.Refusal.TheVariants.{NotFinite, BeyondGrid}
+use Rattle.ring.specs.declared.Point.{Point}
+use Rattle.ring.specs.Grid.{point, beyond}
 use Rattle.ring.specs.Choices.{pick}
 use Rattle.ring.proofs.Pick.{pick_true, pick-false, neither_left, neither_right}
-use Rattle.fixes.specs.declared.Placed.{Placed}
-use Rattle.fixes.specs.declared.Placed.TheVariants.{OnGrid, BeyondGrid, NotFinite}
 use Rattle.fixes.specs.Nearest.{Nearest, NearestTo, with_sign, finite, in_metre}
 use Rattle.fixes.specs.Millimetres.{rounded, millimetres, placed}
 use Rattle.fixes.proofs.Closest.{Closest, one-closest, rounded-closest}
@@ -87,25 +89,26 @@ one-nearest (fin s a e) m n h k =
 -- ---- what an answer tells
 
 -- no second answer meets the promise
-pub one-placing : (easting northing : Float) (p q : Placed) → p ≡ placed easting northing → q ≡ placed easting northing → p ≡ q
+pub one-placing : (easting northing : Float) (p q : Result Point Refusal) → p ≡ placed easting northing → q ≡ placed easting northing → p ≡ q
 one-placing easting northing p q d e = d ∙ sym e
 
--- what is so of two doubles where the conversion answers so
-abbrev pub Means : Float → Float → Placed → Type 0
-Means easting northing (OnGrid x y) = (NearestTo easting x × NearestTo northing y) × ((beyond x ≡ false) × (beyond y ≡ false))
-Means easting northing BeyondGrid =
+-- what is so of two doubles where the conversion answers so; it refuses for no other reason
+abbrev pub Means : Float → Float → Result Point Refusal → Type 0
+Means easting northing (Ok p) = (NearestTo easting p.x × NearestTo northing p.y) × ((beyond p.x ≡ false) × (beyond p.y ≡ false))
+Means easting northing (Err BeyondGrid) =
     ((finite easting ≡ true) × (finite northing ≡ true))
     × ((x y : ℤ) → NearestTo easting x → NearestTo northing y → (beyond x || beyond y) ≡ true)
-Means easting northing NotFinite = (finite easting && finite northing) ≡ false
+Means easting northing (Err NotFinite) = (finite easting && finite northing) ≡ false
+Means easting northing (Err _) = ⊥
 
 both-asked : {f g : Bool} → f ≡ true → g ≡ true → not (f && g) ≡ false
 both-asked d e = λ i. not (d i && e i)
 
-pub placed-means : (easting northing : Float) (p : Placed) → placed easting northing ≡ p → Means easting northing p
+pub placed-means : (easting northing : Float) (p : Result Point Refusal) → placed easting northing ≡ p → Means easting northing p
 placed-means easting northing p same = subst (Means easting northing) same (go (finite easting) (finite northing) (beyond (millimetres easting) || beyond (millimetres northing)) refl refl refl)
   where
     go : (f g b : Bool) → finite easting ≡ f → finite northing ≡ g → (beyond (millimetres easting) || beyond (millimetres northing)) ≡ b
-        → Means easting northing (pick (not (f && g)) NotFinite (pick b BeyondGrid (OnGrid (millimetres easting) (millimetres northing))))
+        → Means easting northing (pick (not (f && g)) (Err NotFinite) (pick b (Err BeyondGrid) (Ok (point (millimetres easting) (millimetres northing)))))
     go true true true d e h = (
       (d, e),
       λ x y k l. (λ i. beyond (one-nearest easting x _ k (nearest-is easting d) i) || beyond (one-nearest northing y _ l (nearest-is northing e) i)) ∙ h,
@@ -120,13 +123,14 @@ has-nearest (inf s) n h = absurd h
 has-nearest (fin s m e) n h = refl
 
 -- and the answer that tells what is so is the conversion's
-pub means-placed : (easting northing : Float) (p : Placed) → Means easting northing p → p ≡ placed easting northing
-means-placed easting northing (OnGrid x y) ((k, l), (a, b)) =
-    let d = has-nearest easting x k in
-    let e = has-nearest northing y l in
-    let same-x : x ≡ millimetres easting = one-nearest easting x _ k (nearest-is easting d) in
-    let same-y : y ≡ millimetres northing = one-nearest northing y _ l (nearest-is northing e) in
-    (λ i. OnGrid (same-x i) (same-y i))
+pub means-placed : (easting northing : Float) (p : Result Point Refusal) → Means easting northing p → p ≡ placed easting northing
+means-placed easting northing (Ok p) ((k, l), (a, b)) =
+    let d = has-nearest easting p.x k in
+    let e = has-nearest northing p.y l in
+    let same-x : p.x ≡ millimetres easting = one-nearest easting p.x _ k (nearest-is easting d) in
+    let same-y : p.y ≡ millimetres northing = one-nearest northing p.y _ l (nearest-is northing e) in
+    (λ i. Ok (point (same-x i) (same-y i)))
     ∙ sym (pick-false (both-asked d e) _ _ ∙ pick-false (sym (λ i. beyond (same-x i) || beyond (same-y i)) ∙ (λ i. a i || b i)) _ _)
-means-placed easting northing BeyondGrid ((d, e), h) = sym (pick-false (both-asked d e) _ _ ∙ pick_true (h _ _ (nearest-is easting d) (nearest-is northing e)) _ _)
-means-placed easting northing NotFinite h = sym (pick_true (ap not h) _ _)
+means-placed easting northing (Err BeyondGrid) ((d, e), h) = sym (pick-false (both-asked d e) _ _ ∙ pick_true (h _ _ (nearest-is easting d) (nearest-is northing e)) _ _)
+means-placed easting northing (Err NotFinite) h = sym (pick_true (ap not h) _ _)
+means-placed easting northing (Err _) h = absurd h

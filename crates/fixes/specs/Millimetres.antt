@@ -1,11 +1,12 @@
 -- The nearest millimetre, computed; proofs/Exactly.antt has that it is the one of Nearest.antt. Assumes nothing.
-use Rattle.std.specs.Prelude.{ℕ, suc, ◌+◌, ◌-◌, ◌*◌, ◌/◌, ◌%◌, ◌^◌, ◌≡◌, false, not, ◌&&◌, ◌||◌, ltb, leb, eqb, ℤ, pos, Float}
+use Rattle.std.specs.Prelude.{ℕ, suc, ◌+◌, ◌-◌, ◌*◌, ◌/◌, ◌%◌, ◌^◌, ◌≡◌, false, not, ◌&&◌, ◌||◌, ltb, leb, eqb, ℤ, pos, Float, Result, Ok, Err}
 use Rattle.std.specs.Float.{nan, inf, fin}
 use Rattle.std.specs.Float.Ieee.{up, down}
-use Rattle.ring.specs.Grid.{beyond}
+use Rattle.refusals.specs.declared.Refusal.{Refusal}
+use Rattle.refusals.specs.declared.Refusal.TheVariants.{NotFinite, BeyondGrid}
+use Rattle.ring.specs.declared.Point.{Point}
+use Rattle.ring.specs.Grid.{point, beyond}
 use Rattle.ring.specs.Choices.{pick}
-use Rattle.fixes.specs.declared.Placed.{Placed}
-use Rattle.fixes.specs.declared.Placed.TheVariants.{OnGrid, BeyondGrid, NotFinite}
 use Rattle.fixes.specs.Nearest.{with_sign, finite, in_metre}
 
 -- m / d to the nearest whole number, by how twice the remainder compares with d, halves to even
@@ -19,10 +20,10 @@ millimetres (inf s) = pos 0
 millimetres (fin s m e) = with_sign s (rounded (in_metre * m * up e) (down e))
 
 -- both values are asked to be finite before either is asked to be on the grid
-abbrev pub placed : Float → Float → Placed
+abbrev pub placed : Float → Float → Result Point Refusal
 placed easting northing =
-    pick (not (finite easting && finite northing)) NotFinite
-    (pick (beyond (millimetres easting) || beyond (millimetres northing)) BeyondGrid (OnGrid (millimetres easting) (millimetres northing)))
+    pick (not (finite easting && finite northing)) (Err NotFinite)
+    (pick (beyond (millimetres easting) || beyond (millimetres northing)) (Err BeyondGrid) (Ok (point (millimetres easting) (millimetres northing))))
 
 -- ---- inside the crate. No public promise cites it.
 

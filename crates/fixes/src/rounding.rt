@@ -9,9 +9,7 @@ const SIGN: u64 = 9_223_372_036_854_775_808;
 
 const FIELD: u64 = 4_503_599_627_370_496;
 
-// The field of infinities and NaNs, and the lowest of values of 2^20 metres and more, which are beyond the grid.
-const NOT_FINITE: u64 = 2047;
-
+// The lowest field of values of 2^20 metres and more, which are beyond the grid.
 const FAR: u64 = 1043;
 
 // A field above 0 stands for the power of two that is this much lower; the exponent of the smallest values, negated.
@@ -26,7 +24,7 @@ const BEYOND: u64 = 1_000_000_001;
 
 const WIDTH: u64 = 64;
 
-// n / 2^s to the nearest whole number, halves to even.
+// n / 2^s to the nearest whole number, halves to even. (The library rounds doubles, and here there is none: what is divided is exact.)
 fn divided(n: u64, s: u64) -> u64
     requires { n < 2 ^ 63 }
     ensures { result ≡ rounded n (2 ^ s) }
@@ -60,24 +58,15 @@ fn size(field: u64, fraction: u64) -> u64
     divided(MILLIMETRES * (FIELD + fraction), BIAS - field)
 }
 
-pub fn finite(x: f64) -> bool
-    ensures { result ≡ is_finite x }
-{
-    if x != x {
-        return false;
-    }
-    f64::to_bits(x) % SIGN / FIELD < NOT_FINITE
-}
-
 // The nearest millimetre of a value in metres, or a number beyond the grid where that is.
 pub fn nearest(x: f64) -> i32
     requires { is_finite x ≡ true }
     ensures { StandsFor result x }
 {
-    let bits = f64::to_bits(x);
+    let bits = x.to_bits();
     let n = size(bits % SIGN / FIELD, bits % FIELD) as i32;
     if bits < SIGN {
         return n;
     }
-    0 - n
+    -n
 }

@@ -15,7 +15,7 @@ use Rattle.exact.proofs.Parts.{up, down}
 use Rattle.ring.specs.declared.Point.{Point}
 use Rattle.ring.specs.Grid.{point, beyond}
 use Rattle.ring.specs.Choices.{pick, count}
-use Rattle.ring.specs.Turns.{quarter_turns, winding}
+use Rattle.ring.specs.Turns.{quarter_turns}
 use Rattle.ring.specs.Locate.{Place, lowest}
 use Rattle.ring.proofs.Quadrants.{turns-reverse}
 use Rattle.ring.proofs.Search.{lowest-none, lowest-is, lowest-over}

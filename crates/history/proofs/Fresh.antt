@@ -9,7 +9,7 @@ use lib.ListN.{length, get_or}
 use Rattle.ring.specs.declared.Point.{Point}
 use Rattle.ring.specs.Grid.{some_beyond}
 use Rattle.ring.specs.Columns.{points}
-use Rattle.ring.proofs.Columns.{length-points}
+use Rattle.ring.proofs.Points.{length-points}
 use Rattle.districts.specs.Counts.{list_to}
 use Rattle.districts.specs.Register.{unused, numbers}
 use Rattle.districts.specs.Lists.{outline_size, first_place, size, part, district, meaning}

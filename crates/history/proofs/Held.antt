@@ -9,16 +9,17 @@ use lib.IntN.{ℤ, pos, negsuc}
 use Rattle.ring.specs.declared.Point.{Point}
 use Rattle.ring.specs.Grid.{point, vertices, beyond}
 use Rattle.ring.specs.Rings.{Weight, Antisymmetric}
-use Rattle.districts.specs.declared.Assigned.{Assigned}
+use Rattle.std.specs.Prelude.{Result}
+use Rattle.districts.specs.declared.Report.{Report}
+use Rattle.refusals.specs.declared.Refusal.{Refusal}
 use Rattle.districts.specs.Register.{Register, slot}
 use Rattle.districts.specs.Answers.{answer_of}
-use Rattle.refusals.specs.Verdicts.{Verdict, accept, refuse, verdict}
+use Rattle.refusals.specs.Verdicts.{Verdict, accept, refuse, verdict, verdict_of}
 use Rattle.register.specs.Sorting.{assigned}
 use Rattle.register.specs.declared.Position.{Position}
 use Rattle.register.specs.Placing.{is_missing, not_finite, east_of, north_of, place_tests, assigned_at}
 use Rattle.register.proofs.ByPosition.{as-on-grid}
 use Rattle.register.specs.Founding.{found_tests, founded}
-use Rattle.register.specs.Calls.{outcome_of}
 use Rattle.districts.specs.Lent.{Lists, formed, means, Leaves}
 use Rattle.judging.specs.Splitting.{split_tests}
 use Rattle.changes.specs.Afterwards.{split, merge}
@@ -43,7 +44,7 @@ kept v w e g before after h l = subst (λ u. (formed after ≡ true) × (means a
 -- one turn is one step
 turned : (l : Lists) (t : Turn) → formed l ≡ true → Promised l t → (formed (left_by l t) ≡ true) × (means (left_by l t) ≡ step (means l) (call_of t))
 unfolding step judged made
-turned l (founding xs r m) h p = kept (outcome_of r) (verdict (found_tests true (means l) xs)) (p.said ∙ ap (λ b. verdict (found_tests b (means l) xs)) h) (founded xs) l m h p.left
+turned l (founding xs r m) h p = kept (verdict_of r) (verdict (found_tests true (means l) xs)) (p.said ∙ ap (λ b. verdict (found_tests b (means l) xs)) h) (founded xs) l m h p.left
 turned l (splitting d i j path r m) h p = kept _ _ (ap (λ b. verdict (split_tests b (means l) d i j path)) h) (split (means l) d i j (vertices path)) l m h p.left
 turned l (merging A a B b k r m) h p = kept _ _ (ap (λ c. verdict (merge_tests c (means l) A a B b k)) h) (merge (means l) A a B b k) l m h p.left
 turned l (reporting r q a) h p = (h, say (verdict (place_tests true (means l) q)))
@@ -81,7 +82,7 @@ module _ (l : Lists) (ts : List Turn) (fresh : Fresh l) (ran : Ran l ts) where
   lists-wind R free = subst (λ g. sum_over (slot_winding R) g.districts ≡ slot_winding R g.outline) (sym now-is) (windings-add-up (calls ts) R (subst (λ g. ClearOf g R) now-is free))
 
   -- a report on the grid and on no edge, where the outline's winding number is 1 and each district's 0 or 1 (or -1 and each 0 or -1)
-  pub lists-one : (a : Assigned) (r : ℕ) (x y u : ℤ) → answer_of a ≡ assigned (formed (last l ts)) (means (last l ts)) r x y
+  pub lists-one : (a : Result Report Refusal) (r : ℕ) (x y u : ℤ) → answer_of a ≡ assigned (formed (last l ts)) (means (last l ts)) r x y
       → (u ≡ pos 1) ⊎ (u ≡ negsuc 0) → beyond x ≡ false → beyond y ≡ false → ClearOf (means (last l ts)) (point x y)
       → slot_winding (point x y) (means (last l ts)).outline ≡ u
       → ((d : ℕ) → (slot_winding (point x y) (slot (means (last l ts)) d) ≡ pos 0) ⊎ (slot_winding (point x y) (slot (means (last l ts)) d) ≡ u))
@@ -98,7 +99,7 @@ module _ (l : Lists) (ts : List Turn) (fresh : Fresh l) (ran : Ran l ts) where
       told g e f h = record { district = h.district; is = f ∙ e ∙ h.is; only = h.only }
 
   -- the same of a report with any position that is there and finite
-  pub lists-one-at : (a : Assigned) (r : ℕ) (p : Position) (u : ℤ) → answer_of a ≡ assigned_at (formed (last l ts)) (means (last l ts)) r p → is_missing p ≡ false → not_finite p ≡ false
+  pub lists-one-at : (a : Result Report Refusal) (r : ℕ) (p : Position) (u : ℤ) → answer_of a ≡ assigned_at (formed (last l ts)) (means (last l ts)) r p → is_missing p ≡ false → not_finite p ≡ false
       → (u ≡ pos 1) ⊎ (u ≡ negsuc 0) → beyond (east_of p) ≡ false → beyond (north_of p) ≡ false → ClearOf (means (last l ts)) (point (east_of p) (north_of p))
       → slot_winding (point (east_of p) (north_of p)) (means (last l ts)).outline ≡ u
       → ((d : ℕ) → (slot_winding (point (east_of p) (north_of p)) (slot (means (last l ts)) d) ≡ pos 0) ⊎ (slot_winding (point (east_of p) (north_of p)) (slot (means (last l ts)) d) ≡ u))

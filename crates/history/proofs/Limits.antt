@@ -31,7 +31,7 @@ use Rattle.changes.specs.Afterwards.{split, merge}
 use Rattle.judging.specs.Merging.{merged}
 use Rattle.changes.proofs.Grids.{run-on-grid, reverse-on-grid}
 use Rattle.judging.proofs.Judged.{vertices-half}
-use Rattle.judging.proofs.Matched.{merged-length}
+use Rattle.judging.proofs.Matched.{merged_long}
 use Rattle.judging.proofs.Sums.{steps-round}
 use Rattle.history.specs.Histories.{Call, founding, splitting, merging, reporting, empty, judged, made, after}
 use Rattle.history.specs.Limits.{Allowed, Within}
@@ -235,7 +235,7 @@ merge-within g A a B b k w fine =
     let second : B < 64 = subst (λ (n : ℕ). B < n) w.full (used-below g B t.gone) in
     let differ : B ≡ A → ⊥ = λ e. t.differ (sym e) in
     let all = counts g A B (ring (merged P a Q b k)) unused w.full first second differ in
-    let long = merged-length P Q a b (length P) (length Q) k refl refl t.fewer t.also in
+    let long = merged_long P Q a b k t.fewer t.also in
     let room : vertex_count (merge g A a B b k) ≤ 2048 = omega (arith, all, long, w.most) in
     let most = first-most g A B (ring (merged P a Q b k)) unused w.full first second differ room in
     changed-within g A B (ring (merged P a Q b k)) unused w.full first second differ w t.outlined

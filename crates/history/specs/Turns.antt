@@ -1,23 +1,22 @@
 -- Calls as a program makes them on its lists: each turn is a call with what it answered and the lists that it left. Assumes nothing.
-use Rattle.std.specs.Prelude.{ℕ, ◌≡◌, true, List, [], ◌∷◌, ℤ}
-use Rattle.districts.specs.declared.Assigned.{Assigned}
+use Rattle.std.specs.Prelude.{ℕ, ◌≡◌, true, List, [], ◌∷◌, ℤ, Result}
+use Rattle.districts.specs.declared.Report.{Report}
+use Rattle.refusals.specs.declared.Refusal.{Refusal}
 use Rattle.districts.specs.Answers.{answer_of}
-use Rattle.register.specs.declared.Founded.{Founded}
 use Rattle.register.specs.Calls.{FoundBy}
 use Rattle.districts.specs.Lent.{Lists, formed, means}
 use Rattle.register.specs.declared.Position.{Position}
 use Rattle.register.specs.Placing.{assigned_at}
-use Rattle.changes.specs.declared.Changed.{Changed}
 use Rattle.changes.specs.Calls.{SplitBy, MergeBy}
 use Rattle.history.specs.Histories as Histories
 use Rattle.history.specs.Histories.{Call}
 
 -- a report leaves no lists: they are lent to it unchangeable
 pub data Turn : Type 0 where
-  founding : List ℤ → Founded → Lists → Turn
-  splitting : ℕ → ℕ → ℕ → List ℤ → Changed → Lists → Turn
-  merging : ℕ → ℕ → ℕ → ℕ → ℕ → Changed → Lists → Turn
-  reporting : ℕ → Position → Assigned → Turn
+  founding : List ℤ → Result (Unit {0}) Refusal → Lists → Turn
+  splitting : ℕ → ℕ → ℕ → List ℤ → Result ℕ Refusal → Lists → Turn
+  merging : ℕ → ℕ → ℕ → ℕ → ℕ → Result ℕ Refusal → Lists → Turn
+  reporting : ℕ → Position → Result Report Refusal → Turn
 
 abbrev pub call_of : Turn → Call
 call_of (founding xs r m) = Histories.founding xs
@@ -32,7 +31,7 @@ left_by l (splitting d i j path r m) = m
 left_by l (merging A a B b k r m) = m
 left_by l (reporting r p a) = l
 
--- the turn is as the call promises: `register::found`, `changes::split`, `changes::merge`, `positions::assign_at`
+-- the turn is as the call promises: `register::found`, `changes::split`, `changes::merge`, `register::assign_at`
 abbrev pub Promised : Lists → Turn → Type 0
 Promised l (founding xs r m) = FoundBy r xs l m
 Promised l (splitting d i j path r m) = SplitBy r d i j path l m

@@ -1,7 +1,6 @@
 pub mod Order
 pub mod Growing
 pub mod Bits
+pub mod Marking
 pub mod Bounding
-pub mod Halves
 pub mod Listing
-pub mod Fitting

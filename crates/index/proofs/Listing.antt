@@ -1,37 +1,25 @@
 -- The masks, one number after the other, and what they do not list. Assumes nothing.
-use Prim.Native.Nat.{ℕ, ◌+◌, ◌≤◌, ◌<◌}
+use Prim.Native.Nat.{ℕ, ◌+◌, ◌<◌}
 use native.Mathlib.Decide.{ℕ_discrete}
 use native.Mathlib.Omega.{arith}
 use mathlib.Core.Path.{◌≡◌, refl, sym, ap, subst, ◌∙◌}
 use mathlib.Core.Bool.{Bool, true, false, ◌||◌, true≢false}
 use mathlib.Core.List.{List}
 use lib.IntN.{ℤ}
-use lib.ListN.{length, get_or}
+use lib.ListN.{get_or}
 use lib.Signed.{lt_z, le_z}
 use Rattle.ring.proofs.Pick.{pick-false}
 use Rattle.districts.specs.Lists.{size}
 use Rattle.districts.proofs.Tests.{both_left, both_right}
 use Rattle.index.specs.declared.bands.Axis as Code
+use Rattle.index.specs.declared.bounds.Bounds.{Bounds}
 use Rattle.index.specs.Axis.{Held, low_of, high_of, within, Bounded, band, Spans, bit, Covers, Widened, Marked, listed, RunBeside, Fits}
 use Rattle.index.proofs.Order.{lt-le-trans, le_lt_trans, le_trans}
 use Rattle.index.proofs.Growing.{band-grows}
 use Rattle.index.proofs.Bounding.{above-all, below_all, outside}
 
-module _ (bounds : List ℤ) (runs : List ℕ) (a : Code.Axis) where
-  pub marked-none : (masks : List ℕ) → length masks ≡ 64 → Marked bounds runs a 0 masks
-  marked-none masks e = record { room = e; touched = λ d h. absurd (let f : ⊥ = omega arith in f) }
-
-  pub marked_all : (d : ℕ) (masks : List ℕ) → Marked bounds runs a d masks → d ≤ 64 → 64 ≤ d → Marked bounds runs a 64 masks
-  marked_all d masks m h k = subst (λ n. Marked bounds runs a n masks) (let e : d ≡ 64 = omega arith in e) m
-
-  -- an unused number
-  pub marked-without : (d : ℕ) (masks : List ℕ) → (0 < size runs d → ⊥) → Marked bounds runs a d masks → Marked bounds runs a (d + 1) masks
-  marked-without d masks unused m = record {
-    room = m.room;
-    touched = λ e h u. elim (ℕ_discrete e d) [ yes same ↦ absurd (unused (subst (λ k. 0 < size runs k) same u)) | no other ↦ m.touched e (omega arith) u ];
-  }
-
-  -- a used one, from the band of its low bound to that of its high one
+module _ (bounds : List Bounds) (runs : List ℕ) (a : Code.Axis) where
+  -- a used number, from the band of its low bound to that of its high one
   pub marked-with : (d from to : ℕ) (masks after : List ℕ) → Marked bounds runs a d masks → from ≡ band a.low a.shift (low_of bounds d) → to ≡ band a.low a.shift (high_of bounds d) → Widened masks d from to after → Marked bounds runs a (d + 1) after
   marked-with d from to masks after m f t w = record {
     room = w.room ∙ m.room;
@@ -41,7 +29,7 @@ module _ (bounds : List ℤ) (runs : List ℕ) (a : Code.Axis) where
     ];
   }
 
-module _ (column : List ℤ) (runs : List ℕ) (held : Held column runs) (bounds : List ℤ) (bounded : Bounded column runs 64 bounds) (a : Code.Axis) (spans : Spans bounds a) (masks : List ℕ) (marked : Marked bounds runs a 64 masks) where
+module _ (column : List ℤ) (runs : List ℕ) (held : Held column runs) (bounds : List Bounds) (bounded : Bounded column runs 64 bounds) (a : Code.Axis) (spans : Spans bounds a) (masks : List ℕ) (marked : Marked bounds runs a 64 masks) where
   -- a number on the axis within d's bounds is in a band that lists d
   lists : (d : ℕ) → d < 64 → 0 < size runs d → (v : ℤ) → le_z (low_of bounds d) v ≡ true → le_z v (high_of bounds d) ≡ true → bit (get_or masks (band a.low a.shift v) 0) d ≡ true
   lists d h u v e f = marked.touched d h u (band a.low a.shift v)

@@ -1,28 +1,19 @@
 -- An index along both axes, and one that is kept while its register changes. Assumes nothing.
-use Rattle.std.specs.Prelude.{ℕ, ◌≡◌, true, List, ℤ, length}
-use Rattle.index.specs.declared.bands.Axis.{Axis}
-use Rattle.index.specs.declared.Axes.{Axes}
+use Rattle.std.specs.Prelude.{ℕ, List, ℤ, Option, Some, None}
+use Rattle.index.specs.declared.AxisIndex.{AxisIndex}
+use Rattle.index.specs.declared.Index.{Index}
+use Rattle.index.specs.declared.column.Column.{Column}
 use Rattle.index.specs.Axis.{Fits}
 
+abbrev pub FitsColumn : Column → AxisIndex → Type 0
+FitsColumn c i = Fits c.numbers.now c.runs.list.now i.bounds i.masks i.axis
+
 -- it fits along x and along y
-pub record Indexed (sx sy : List ℤ) (runs : List ℕ) (bx by : List ℤ) (mx my : List ℕ) (ax ay : Axis) : Type 0 where
-  pub across : Fits sx runs bx mx ax
-  pub up : Fits sy runs by my ay
+pub record Indexed (sx sy : List ℤ) (runs : List ℕ) (i : Index) : Type 0 where
+  pub across : Fits sx runs i.x.bounds i.x.masks i.x.axis
+  pub up : Fits sy runs i.y.bounds i.y.masks i.y.axis
 
--- its bounds along x and y, and its masks
-pub record Index : Type 0 where
-  pub bx : List ℤ
-  pub by : List ℤ
-  pub mx : List ℕ
-  pub my : List ℕ
-
-abbrev pub index : List ℤ → List ℤ → List ℕ → List ℕ → Index
-index bx by mx my = record { bx = bx; by = by; mx = mx; my = my }
-
--- it is as long as an index is, and where it is said to fit these columns and runs it does
-pub record Fitting (a : Axes) (sx sy : List ℤ) (runs : List ℕ) (i : Index) : Type 0 where
-  pub bx-room : length i.bx ≡ 128
-  pub by-room : length i.by ≡ 128
-  pub mx-room : length i.mx ≡ 64
-  pub my-room : length i.my ≡ 64
-  pub fits : a.fit ≡ true → Indexed sx sy runs i.bx i.by i.mx i.my a.x a.y
+-- where one is kept, it fits these columns and runs
+abbrev pub Fitting : Option Index → List ℤ → List ℤ → List ℕ → Type 0
+Fitting None sx sy runs = Unit {0}
+Fitting (Some i) sx sy runs = Indexed sx sy runs i

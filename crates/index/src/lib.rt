@@ -1,91 +1,84 @@
-// An index of a register's districts along one axis, made once for many reports: the bounds of each district, and the axis cut into 64 bands, each with a mask of
-// the districts that touch it. The index of a register is one of these for x and one for y: a district has nothing to say about a point that one of them does not
-// list it for. The lists that hold it are lent: 128 bounds and 64 masks for each axis. One that is kept while the register changes is stale after a change, and made
-// anew where it is needed.
+// An index of a register's districts, made once for many reports: along each axis the bounds of each district, and the axis cut into 64 bands, each with a mask of the
+// districts that touch it. A district has nothing to say about a point that one of the two axes does not list it for. An index that is kept while the register changes is
+// dropped at a change, and made anew where it is needed.
 
 #![tactic(auto)]
 
 mod bands;
 mod bounds;
+mod column;
 mod masks;
 
-ghost use Rattle.std.specs.Prelude.{◌≡◌, length, true, false};
-ghost use Rattle.districts.specs.Lent.{GoodRuns};
-ghost use Rattle.index.specs.Axis.{Held, Fits};
-ghost use Rattle.index.specs.Both.{Indexed, index, Fitting};
+ghost use Rattle.std.specs.Prelude.{◌≡◌, ◌<◌};
+ghost use Rattle.index.specs.Axis.{OnAxis, within, listed};
+ghost use Rattle.index.specs.Both.{Indexed, FitsColumn};
 
 pub use bands::Axis;
-pub use bounds::{Bound, within};
-pub use masks::listed;
+pub use bounds::Bounds;
+use column::Column;
+use districts::{NUMBERS, Store};
 
-// The axes of an index that is kept while its register changes, and whether it fits.
+// The index along one axis.
 #[derive(Clone, Copy)]
-pub struct Axes {
-    pub x: Axis,
-    pub y: Axis,
-    pub fit: bool,
+pub struct AxisIndex {
+    pub bounds: [Bounds; NUMBERS],
+    pub axis: Axis,
+    pub masks: [u64; bands::BANDS],
 }
 
-const NO_AXIS: Axis = Axis {
-    low: 0,
-    high: 0,
-    shift: 0,
-};
+#[derive(Clone, Copy)]
+pub struct Index {
+    pub x: AxisIndex,
+    pub y: AxisIndex,
+}
 
-impl Axes {
-    // Of no index.
-    pub fn new() -> Self
-        ensures { result.fit ≡ false }
+impl AxisIndex {
+    fn of(column: &Column) -> AxisIndex
+        ensures { FitsColumn column.now result }
     {
-        Axes {
-            x: NO_AXIS,
-            y: NO_AXIS,
-            fit: false,
+        let bounds = Bounds::all(column);
+        let axis = bands::spanning(&bounds);
+        let masks = masks::all(&bounds, column, axis);
+        AxisIndex {
+            bounds,
+            axis,
+            masks,
         }
     }
 
-    // After a change of the register.
-    pub fn stale(self) -> Axes
-        ensures { result.fit ≡ false }
+    // Whether v is within d's bounds.
+    pub fn holds(&self, d: usize, v: i32) -> bool
+        requires { d < 64 }
+        ensures { result ≡ within self.now.bounds d v }
     {
-        let x = self.x;
-        let y = self.y;
-        Axes { x, y, fit: false }
+        let bounds = self.bounds[d];
+        (bounds.low <= v) & (v <= bounds.high)
+    }
+
+    // The districts that may have a run on both sides of v, a bit for each: those of its band, and none where v is not on the axis.
+    pub fn listed(&self, v: i32) -> u64
+        requires { OnAxis self.now.axis }
+        ensures { result ≡ listed self.now.masks self.now.axis v }
+    {
+        masks::listed(&self.masks, self.axis, v)
     }
 }
 
-// Makes the index of the districts' x, or of their y.
-pub fn make(column: &[i32], runs: &[u32], bounds: &mut [i32], masks: &mut [u64]) -> Axis
-    requires held { Held column.now runs.now }
-    requires bounds_len { (length bounds.old ≡ 128) × (length masks.old ≡ 64) }
-    ensures { Fits column.now runs.now bounds.new masks.new result }
-{
-    bounds::bound_all(column, runs, bounds);
-    let a = bands::spanning(bounds);
-    masks::clear(masks);
-    masks::mark_all(masks, bounds, runs, a);
-    a
-}
-
-// The axes of an index that fits: of this one, or of one made anew.
-pub fn fitted(
-    sx: &[i32],
-    sy: &[i32],
-    runs: &[u32],
-    bx: &mut [i32; 128],
-    by: &mut [i32; 128],
-    mx: &mut [u64; 64],
-    my: &mut [u64; 64],
-    axes: Axes,
-) -> Axes
-    requires good_runs { GoodRuns sx.now sy.now runs.now }
-    requires fitting { Fitting axes sx.now sy.now runs.now (index bx.old by.old mx.old my.old) }
-    ensures { (result.fit ≡ true) × Indexed sx.now sy.now runs.now bx.new by.new mx.new my.new result.x result.y }
-{
-    if axes.fit {
-        return axes;
+impl Index {
+    pub fn of(store: &Store) -> Index
+        ensures { Indexed store.now.sx.now store.now.sy.now store.now.runs.list.now result }
+    {
+        let x = Column {
+            numbers: store.sx,
+            runs: store.runs,
+        };
+        let y = Column {
+            numbers: store.sy,
+            runs: store.runs,
+        };
+        Index {
+            x: AxisIndex::of(&x),
+            y: AxisIndex::of(&y),
+        }
     }
-    let x = make(sx, runs, bx, mx);
-    let y = make(sy, runs, by, my);
-    Axes { x, y, fit: true }
 }

@@ -1,4 +1,5 @@
--- The tests of a split over the register that the lists mean are those over the numbers that the lists hold. Assumes nothing.
+-- The tests of a split over the register that the lists mean are those over the numbers that the lists hold; and the slots of that register are what the store
+-- holds. Assumes nothing.
 use Prim.Native.Nat.{ℕ, suc, ◌+◌, ◌/◌, ◌%◌, ◌≤◌, ◌<◌}
 use native.Mathlib.Decide.{ℕ_discrete, dec_lt}
 use native.Mathlib.Omega.{arith}
@@ -9,13 +10,17 @@ use lib.Dec.{eqb, leb, ltb}
 use lib.IntN.{ℤ}
 use lib.ListN.{length, length-append, length-reverse, get_or-eq_default}
 use Rattle.ring.specs.declared.Point.{Point}
+use Rattle.ring.specs.Columns.{points}
 use Rattle.ring.specs.Grid.{vertices, some_beyond}
 use Rattle.ring.specs.Locate.{lowest}
 use Rattle.districts.specs.Register.{slot, in_use, vertices_of}
-use Rattle.districts.specs.Lent.{beginning}
-use Rattle.districts.specs.Lists.{first_place, size, part, meaning}
+use Rattle.districts.specs.Lent.{Lists, outline_of, store_of, formed, means, beginning}
+use Rattle.districts.specs.Lists.{first_place, size, part, district, meaning}
+use Rattle.districts.specs.Held.{StoreOf, district_of}
+use Rattle.districts.specs.declared.store.Store.{Store}
 use Rattle.districts.specs.WellFormed.{total}
 use Rattle.districts.proofs.Sums.{sum_same}
+use Rattle.districts.proofs.Sound.{runs-length}
 use Rattle.districts.proofs.Meaning.{unused-when, ring-when, slot_is}
 use Rattle.refusals.specs.Verdicts.{◌if◌}
 use Rattle.districts.proofs.Lent.{part_length, held-in-use}
@@ -84,16 +89,17 @@ module _ (outline store : List Point) (runs : List ℕ) (s : Sound outline store
   count-is = sum_same (λ d. length (vertices_of (slot (meaning outline store runs) d))) (size runs) 64 (λ d h. length-of d)
 
   module _ (d i j : ℕ) (path : List ℤ) where
-    piece : (a b : ℕ) (W : List Point) → length W ≡ length path / 2 → length (run (ring_of d) a (suc (steps (length (ring_of d)) a b)) ++ W) ≡ suc (steps (size runs d) a b) + length path / 2
+    piece : (a b : ℕ) (W : List Point) → length W ≡ length path / 2 → length (run (ring_of d) a (suc (steps (length (ring_of d)) a b)) ++ W) ≡ 1 + steps (size runs d) a b + length path / 2
     piece a b W e =
         length-append (run (ring_of d) a (suc (steps (length (ring_of d)) a b))) W
         ∙ (λ t. run_length (ring_of d) a (suc (steps (length (ring_of d)) a b)) t + e t)
         ∙ ap (λ n. suc (steps n a b) + length path / 2) (length-of d)
+        ∙ let one : suc (steps (size runs d) a b) ≡ 1 + steps (size runs d) a b = omega arith in ap (λ n. n + length path / 2) one
 
-    pub one-long : length (piece_one (ring_of d) i j (vertices path)) ≡ suc (steps (size runs d) i j) + length path / 2
+    pub one-long : length (piece_one (ring_of d) i j (vertices path)) ≡ 1 + steps (size runs d) i j + length path / 2
     one-long = piece i j (reverse (vertices path)) (length-reverse (vertices path) ∙ vertices-half path)
 
-    pub two-long : length (piece_two (ring_of d) i j (vertices path)) ≡ suc (steps (size runs d) j i) + length path / 2
+    pub two-long : length (piece_two (ring_of d) i j (vertices path)) ≡ 1 + steps (size runs d) j i + length path / 2
     two-long = piece j i (vertices path) (vertices-half path)
 
     pub tests-are : (b : Bool) → split_tests b (meaning outline store runs) d i j path ≡ beginning b (meaning outline store runs) ++ district_tests runs d i j path
@@ -107,3 +113,8 @@ module _ (outline store : List Point) (runs : List ℕ) (s : Sound outline store
         ∷ (11 if leb 64 (free-is t))
         ∷ (12 if ltb 2048 (count-is t + 2 + length path))
         ∷ []
+
+-- what a number has in the store of well-formed lists is its slot
+pub store_slot : (l : Lists) (s : Store) → formed l ≡ true → StoreOf l s → (d : ℕ) → district_of s d ≡ slot (means l) d
+store_slot l s good held d =
+    (λ i. district (points (held.0 i) (held.1 i)) (held.2 i) d) ∙ sym (slot_is (outline_of l) (store_of l) l.runs (runs-length l good) d)

@@ -1,4 +1,5 @@
 pub mod Sums
 pub mod Judged
+pub mod Free
 pub mod Matched
 pub mod Told

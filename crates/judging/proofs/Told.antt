@@ -3,14 +3,13 @@ use Prim.Native.Nat.{ℕ, ◌+◌, ◌%◌, ◌≤◌, ◌<◌}
 use native.Mathlib.Decide.{dec_lt}
 use native.Mathlib.Omega.{arith}
 use mathlib.Core.Path.{◌≡◌, refl, sym, ap, ◌∙◌}
-use mathlib.Core.Bool.{Bool, true, false, not, ◌||◌}
+use mathlib.Core.Bool.{Bool, true, false, not, ◌||◌, true≢false}
 use mathlib.Core.List.{List}
 use lib.Dec.{eqb, leb, ltb}
 use lib.IntN.{ℤ}
 use lib.ListN.{length, get_or-eq_default}
 use borrow.Author.Tests.{eqb-false, leb-false, ltb-false, not-false}
 use Rattle.ring.specs.Grid.{vertices, some_beyond}
-use Rattle.ring.specs.Choices.{pick}
 use Rattle.ring.proofs.Pick.{neither_left, neither_right}
 use Rattle.districts.specs.Register.{Slot, unused, ring, Register, slot, in_use, vertices_of}
 use Rattle.refusals.specs.Verdicts.{accept, verdict}
@@ -21,20 +20,20 @@ use Rattle.judging.specs.Merging.{matches, merged, merge_tests}
 -- ---- slots
 
 pub used-ring : (s : Slot) → in_use s ≡ true → s ≡ ring (vertices_of s)
-used-ring unused e = let clash : ◌≡◌ {A = ℕ} 0 1 = ap (λ b. pick b 1 0) e in absurd (let f : ⊥ = omega arith in f)
+used-ring unused e = cc
 used-ring (ring P) e = refl
 
 pub unused-slot : (s : Slot) → in_use s ≡ false → s ≡ unused
 unused-slot unused e = refl
-unused-slot (ring P) e = let clash : ◌≡◌ {A = ℕ} 1 0 = ap (λ b. pick b 1 0) e in absurd (let f : ⊥ = omega arith in f)
+unused-slot (ring P) e = cc
 
 -- a number in use is one of the register's numbers
 pub used-below : (g : Register) (d : ℕ) → in_use (slot g d) ≡ true → d < length g.districts
 used-below g d e = elim (dec_lt d (length g.districts)) [
   | yes less ↦ less
   | no more ↦
-      let clash : ◌≡◌ {A = ℕ} 0 1 = ap (λ b. pick b 1 0) (sym (ap in_use (get_or-eq_default g.districts unused (omega (arith, more)))) ∙ e) in
-      absurd (let f : ⊥ = omega arith in f)
+      let clash : false ≡ true = sym (ap in_use (get_or-eq_default g.districts unused (omega (arith, more)))) ∙ e in
+      absurd (true≢false (sym clash))
 ]
 
 -- ---- splitting

@@ -1,46 +1,46 @@
 -- The tests of a split, asked of the numbers that the lists hold, and those of a merge, asked of two slots. No public promise cites it.
 -- Assumes nothing.
-use Rattle.std.specs.Prelude.{ℕ, suc, ◌+◌, ◌/◌, ◌%◌, ◌≤◌, ◌<◌, ◌≡◌, not, ◌||◌, List, [], ◌∷◌, eqb, leb, ltb, ℤ, length}
+use Rattle.std.specs.Prelude.{ℕ, ◌+◌, ◌/◌, ◌%◌, ◌<◌, ◌≡◌, not, ◌||◌, List, [], ◌∷◌, eqb, leb, ltb, ℤ, length, Option, Some, None, Result, Ok, Err}
 use Rattle.ring.specs.declared.Point.{Point}
 use Rattle.ring.specs.Grid.{some_beyond, fewest_vertices, most_vertices}
 use Rattle.ring.specs.Locate.{lowest}
 use Rattle.districts.specs.Register.{Slot, in_use, vertices_of}
 use Rattle.districts.specs.Lists.{size}
 use Rattle.districts.specs.WellFormed.{total}
-use Rattle.refusals.specs.Verdicts.{Test, ◌if◌}
+use Rattle.refusals.specs.declared.Refusal.{Refusal}
+use Rattle.refusals.specs.Numbers.{number_of}
+use Rattle.refusals.specs.Verdicts.{Test, ◌if◌, Verdict, accept, refuse}
 use Rattle.room.specs.Runs.{steps}
 use Rattle.judging.specs.Merging.{matches, merged}
-
--- a ring in two columns, one of its indices, and a number of steps that do not lead round it
-pub record Matchable (xs ys : List ℤ) (a t : ℕ) : Type 0 where
-  pub even : length xs ≡ length ys
-  pub most : length xs ≤ 2048
-  pub index : a < length xs
-  pub less : t < length xs
 
 -- the lowest number whose size is 0, 64 where there is none
 abbrev pub lowest_free : List ℕ → ℕ
 lowest_free runs = lowest (λ d. eqb (size runs d) 0) 64 0
 
--- refusals 9, 11, 12, of a ring of n vertices, `all` vertices in all and `free` the lowest unused number
-abbrev pub piece_tests : ℕ → ℕ → ℕ → ℕ → ℕ → List ℤ → List Test
-piece_tests n all free i j path =
-    (9 if ltb (suc (steps n i j) + length path / 2) fewest_vertices || ltb (suc (steps n j i) + length path / 2) fewest_vertices)
-    ∷ (11 if leb 64 free)
-    ∷ (12 if ltb most_vertices (all + 2 + length path))
-    ∷ []
+-- how the code says a number below 64, or that there is none
+abbrev pub Frees : Option ℕ → ℕ → Type 0
+Frees (Some d) n = (d ≡ n) × (d < 64)
+Frees None n = n ≡ 64
 
--- refusals 8, 4, 5, then those
-abbrev pub cut_tests : ℕ → ℕ → ℕ → ℕ → ℕ → List ℤ → List Test
-cut_tests n all free i j path =
-    (8 if (leb n i || leb n j) || eqb i j)
+-- what a judge of splits says: the number of the new district, or the refusal
+abbrev pub Judged : Result ℕ Refusal → Verdict → ℕ → Type 0
+Judged (Ok d) v n = (v ≡ accept) × (d ≡ n)
+Judged (Err r) v n = v ≡ refuse (number_of r)
+
+-- refusals 6, 8, 4, 5, 9, 11, 12
+abbrev pub district_tests : List ℕ → ℕ → ℕ → ℕ → List ℤ → List Test
+district_tests runs d i j path =
+    (6 if eqb n 0)
+    ∷ (8 if (leb n i || leb n j) || eqb i j)
     ∷ (4 if eqb (length path % 2) 1)
     ∷ (5 if some_beyond path)
-    ∷ piece_tests n all free i j path
-
--- refusal 6, of the number of a district, then those
-abbrev pub district_tests : List ℕ → ℕ → ℕ → ℕ → List ℤ → List Test
-district_tests runs d i j path = (6 if eqb (size runs d) 0) ∷ cut_tests (size runs d) (total runs) (lowest_free runs) i j path
+    ∷ (9 if ltb (1 + steps n i j + length path / 2) fewest_vertices || ltb (1 + steps n j i + length path / 2) fewest_vertices)
+    ∷ (11 if leb 64 (lowest_free runs))
+    ∷ (12 if ltb most_vertices (total runs + 2 + length path))
+    ∷ []
+  where
+    n : ℕ
+    n = size runs d
 
 -- refusals 8, 10, 9, of two rings
 abbrev pub border_tests : List Point → ℕ → List Point → ℕ → ℕ → List Test

@@ -1,131 +1,96 @@
 // Whether a merge is refused, and why: above all whether the two rings match along the border.
-ghost use Rattle.std.specs.Prelude.{◌≡◌, ◌+◌, ◌-◌, ◌≤◌, length};
-ghost use Rattle.ring.specs.Columns.{points};
+ghost use Rattle.std.specs.Prelude.{◌≡◌, ◌+◌, ◌-◌, ◌<◌, length};
+ghost use Rattle.ring.specs.Held.{points_of};
 ghost use Rattle.ring.specs.Rings.{at};
 ghost use Rattle.ring.specs.Segment.{same as same_point};
-ghost use Rattle.districts.specs.Lists.{district};
 ghost use Rattle.refusals.specs.Verdicts.{verdict, verdict_of};
-ghost use Rattle.districts.specs.Lent.{lent, formed, means, GoodRuns};
+ghost use Rattle.districts.specs.Held.{lists_of, district_of, Holds};
+ghost use Rattle.districts.specs.Lent.{formed, means};
 ghost use Rattle.judging.specs.Merging.{matches as match_all, merge_tests};
-ghost use Rattle.judging.specs.Judging.{Matchable, border_tests, pair_tests};
+ghost use Rattle.judging.specs.Judging.{border_tests, pair_tests};
 
-use crate::splits;
-use refusals::{Refusal, Verdict};
+use crate::Seam;
+use districts::{Lists, NUMBERS, Store};
+use refusals::Refusal;
+use ring::{Columns, Ring};
 
-// Whether vertex a + t of the ring in the columns xs, ys is vertex b - t of the one in us, vs.
-fn meets(xs: &[i32], ys: &[i32], a: usize, us: &[i32], vs: &[i32], b: usize, t: usize) -> bool
-    requires cases { Matchable xs.now ys.now a t }
-    requires cases_2 { Matchable us.now vs.now b t }
-    ensures { result ≡ same_point (at (points xs.now ys.now) (a + t)) (at (points us.now vs.now) (b + length us.now - t)) }
+// Whether vertex a + t of one ring is vertex b - t of the other.
+#[tactic(auto, using(crate::proofs::Matched::few_points))]
+fn meets(one: &Columns, a: usize, two: &Columns, b: usize, t: usize) -> bool
+    requires one { (a < length (points_of one.now)) × (t < length (points_of one.now)) }
+    requires two { (b < length (points_of two.now)) × (t < length (points_of two.now)) }
+    ensures { result ≡ same_point (at (points_of one.now) (a + t)) (at (points_of two.now) (b + length (points_of two.now) - t)) }
 {
-    let n = xs.len();
-    let m = us.len();
-    let p = columns::vertex(xs, ys, room::around(a + t, n));
-    let q = columns::vertex(us, vs, room::around(b + m - t, m));
-    ring::same(p, q)
+    let n = one.len();
+    let m = two.len();
+    two.vertex(room::around(b + m - t, m)) == one.vertex(room::around(a + t, n))
 }
 
 // Whether the rings match along k edges: in all k + 1 points, the one going forward and the other backward.
-fn matches(xs: &[i32], ys: &[i32], a: usize, us: &[i32], vs: &[i32], b: usize, k: usize) -> bool
-    requires cases { Matchable xs.now ys.now a k }
-    requires cases_2 { Matchable us.now vs.now b k }
-    ensures { result ≡ match_all (points xs.now ys.now) a (points us.now vs.now) b k }
+#[tactic(auto, using(crate::proofs::Matched::few_points))]
+fn matches(one: &Columns, a: usize, two: &Columns, b: usize, k: usize) -> bool
+    requires one { (a < length (points_of one.now)) × (k < length (points_of one.now)) }
+    requires two { (b < length (points_of two.now)) × (k < length (points_of two.now)) }
+    ensures { result ≡ match_all (points_of one.now) a (points_of two.now) b k }
 {
-    let mut t = 0;
-    while t <= k {
-        if !meets(xs, ys, a, us, vs, b, t) {
-            return false;
-        }
-        t += 1;
-    }
-    true
+    (0..k + 1).all(|t| meets(one, a, two, b, t))
 }
 
 // Refusals 8, 10 and 9.
-fn judge_border(
-    xs: &[i32],
-    ys: &[i32],
-    a: usize,
-    us: &[i32],
-    vs: &[i32],
-    b: usize,
-    k: usize,
-) -> Verdict
-    requires xs_len { (length xs.now ≡ length ys.now) × (length us.now ≡ length vs.now) }
-    requires xs_len_bound { (length xs.now ≤ 2048) × (length us.now ≤ 2048) }
-    ensures { verdict_of result ≡ verdict (border_tests (points xs.now ys.now) a (points us.now vs.now) b k) }
+#[tactic(auto, using(crate::proofs::Matched::few_points, crate::proofs::Matched::merged_long), unfolding(refusals::specs::Verdicts::verdict))]
+fn judge_border(one: &Columns, two: &Columns, seam: Seam) -> Result<(), Refusal>
+    ensures { verdict_of result ≡ verdict (border_tests (points_of one.now) seam.a (points_of two.now) seam.b seam.k) }
 {
-    let n = xs.len();
-    let m = us.len();
-    if (n <= a) | (m <= b) {
-        return Verdict::Refused(Refusal::BadIndex);
+    let n = one.len();
+    let m = two.len();
+    let k = seam.k;
+    if (n <= seam.a) | (m <= seam.b) {
+        return Err(Refusal::BadIndex);
     }
     if (k == 0) | ((n <= k) | (m <= k)) {
-        return Verdict::Refused(Refusal::NoMatch);
+        return Err(Refusal::NoMatch);
     }
-    if !matches(xs, ys, a, us, vs, b, k) {
-        return Verdict::Refused(Refusal::NoMatch);
+    if !matches(one, seam.a, two, seam.b, k) {
+        return Err(Refusal::NoMatch);
     }
     if n - k + (m - k) < ring::FEWEST_VERTICES {
-        return Verdict::Refused(Refusal::TooFew);
+        return Err(Refusal::TooFew);
     }
-    Verdict::Accepted
+    Ok(())
 }
 
-// Refusals 6 and 7, then those; the rings are the parts of the store's columns at the two districts' offsets.
-fn judge_pair(
-    sx: &[i32],
-    sy: &[i32],
-    runs: &[u32],
-    kept: usize,
-    a: usize,
-    gone: usize,
-    b: usize,
-    k: usize,
-) -> Verdict
-    requires { GoodRuns sx.now sy.now runs.now }
-    ensures { verdict_of result ≡ verdict (pair_tests (district (points sx.now sy.now) runs.now kept) (district (points sx.now sy.now) runs.now gone) kept a gone b k) }
+// The ring of a number, if it is used; those above 63 are not.
+fn ring_of<'a>(store: &Store<'a>, d: usize) -> Option<Columns<'a>>
+    ensures { Holds result (district_of store.now d) }
 {
-    if !splits::in_use(runs, kept) | !splits::in_use(runs, gone) {
-        return Verdict::Refused(Refusal::BadNumber);
+    if d < NUMBERS {
+        return store.ring(d);
     }
-    if kept == gone {
-        return Verdict::Refused(Refusal::SameDistrict);
+    None
+}
+
+// Refusals 6 and 7, then those, of the rings of the two districts.
+#[tactic(auto, unfolding(refusals::specs::Verdicts::verdict))]
+fn judge_pair(store: &Store, seam: Seam) -> Result<(), Refusal>
+    ensures { verdict_of result ≡ verdict (pair_tests (district_of store.now seam.kept) (district_of store.now seam.gone) seam.kept seam.a seam.gone seam.b seam.k) }
+{
+    let Some(one) = ring_of(store, seam.kept) else {
+        return Err(Refusal::BadNumber);
+    };
+    let Some(two) = ring_of(store, seam.gone) else {
+        return Err(Refusal::BadNumber);
+    };
+    if seam.kept == seam.gone {
+        return Err(Refusal::SameDistrict);
     }
-    let from = districts::first_place(runs, kept);
-    let after = districts::first_place(runs, gone);
-    let to = from + districts::size(runs, kept);
-    let end = after + districts::size(runs, gone);
-    judge_border(
-        &sx[from..to],
-        &sy[from..to],
-        a,
-        &sx[after..end],
-        &sy[after..end],
-        b,
-        k,
-    )
+    judge_border(&one, &two, seam)
 }
 
 // Whether the merge is refused, and why, where it is known whether the register is well-formed.
-pub fn merge(
-    good: bool,
-    ox: &[i32],
-    oy: &[i32],
-    sx: &[i32],
-    sy: &[i32],
-    runs: &[u32],
-    kept: usize,
-    a: usize,
-    gone: usize,
-    b: usize,
-    k: usize,
-) -> Verdict
-    requires { good ≡ formed (lent ox.now oy.now sx.now sy.now runs.now) }
-    ensures { verdict_of result ≡ verdict (merge_tests (formed (lent ox.now oy.now sx.now sy.now runs.now)) (means (lent ox.now oy.now sx.now sy.now runs.now)) kept a gone b k) }
+pub fn merge(good: bool, lists: &Lists, seam: Seam) -> Result<(), Refusal>
+    requires { good ≡ formed (lists_of lists.now) }
+    ensures { verdict_of result ≡ verdict (merge_tests (formed (lists_of lists.now)) (means (lists_of lists.now)) seam.kept seam.a seam.gone seam.b seam.k) }
 {
-    match districts::begins(good, runs) {
-        Verdict::Accepted => judge_pair(sx, sy, runs, kept, a, gone, b, k),
-        Verdict::Refused(r) => Verdict::Refused(r),
-    }
+    let store = lists.begun(good)?;
+    judge_pair(&store, seam)
 }

@@ -1,42 +1,24 @@
 // Whether a split is refused, and why: the rules' tests in its order, each asked once the earlier ones have passed.
-ghost use Rattle.std.specs.Prelude.{◌≡◌, not, true, ◌+◌, ◌<◌, ◌≤◌, eqb, length};
-ghost use Rattle.districts.specs.Lists.{size as size_of};
-ghost use Rattle.districts.specs.WellFormed.{total as total_of};
-ghost use Rattle.districts.specs.Lent.{lent, formed, means};
-ghost use Rattle.refusals.specs.Verdicts.{verdict, verdict_of};
+ghost use Rattle.std.specs.Prelude.{◌≡◌, ◌<◌, ◌≤◌};
+ghost use Rattle.districts.specs.Lent.{formed, means};
+ghost use Rattle.districts.specs.Held.{lists_of};
+ghost use Rattle.refusals.specs.Verdicts.{verdict};
 ghost use Rattle.room.specs.Runs.{steps as steps_of};
-ghost use Rattle.judging.specs.Splitting.{split_tests};
-ghost use Rattle.judging.specs.Judging.{lowest_free, piece_tests, cut_tests, district_tests};
+ghost use Rattle.judging.specs.Splitting.{split_tests, lowest_unused as lowest_unused_of};
+ghost use Rattle.judging.specs.Judging.{lowest_free, Frees, Judged, district_tests};
 
-use districts::NUMBERS;
-use refusals::{Refusal, Verdict};
+use crate::Cut;
+use districts::{Lists, NUMBERS, Runs, Store};
+use refusals::Refusal;
 use ring::{FEWEST_VERTICES, MOST_VERTICES};
 
 // The two vertices at which a split begins and ends: both pieces have them.
 const ENDS: usize = 2;
 
-pub fn in_use(runs: &[u32], d: usize) -> bool
-    requires { length runs.now ≡ 129 }
-    ensures { (result ≡ not (eqb (size_of runs.now d) 0)) × (result ≡ true → d < 64) }
+pub fn lowest_unused(runs: &Runs) -> Option<usize>
+    ensures { Frees result (lowest_free runs.now.list.now) }
 {
-    if d < NUMBERS {
-        return 0 < districts::size(runs, d);
-    }
-    false
-}
-
-pub fn lowest_unused(runs: &[u32]) -> usize
-    requires { length runs.now ≡ 129 }
-    ensures { (result ≡ lowest_free runs.now) × (result ≤ 64) }
-{
-    let mut d = 0;
-    while d < NUMBERS {
-        if districts::size(runs, d) == 0 {
-            return d;
-        }
-        d += 1;
-    }
-    NUMBERS
+    (0..NUMBERS).find(|d| runs.size(*d) == 0)
 }
 
 // How many edges lead from vertex i forward to vertex j, of a ring of n.
@@ -46,85 +28,50 @@ pub fn steps(n: usize, i: usize, j: usize) -> usize
     requires j_lt_n { j < n }
     ensures { (result ≡ steps_of n i j) × (result < n) }
 {
-    if i <= j {
-        return j - i;
-    }
-    j + n - i
+    if i <= j { j - i } else { j + n - i }
 }
 
-// Refusals 9, 11 and 12.
-fn judge_pieces(runs: &[u32], n: usize, i: usize, j: usize, path: &[i32]) -> Verdict
-    requires runs_len { length runs.now ≡ 129 }
-    requires n_bound { (n ≤ 2048) × (i < n) × (j < n) }
-    requires runs_bound { total_of runs.now ≤ 2048 }
-    ensures { verdict_of result ≡ verdict (piece_tests n (total_of runs.now) (lowest_free runs.now) i j path.now) }
+// Refusals 6, 8, 4, 5, 9, 11 and 12, or the number of the new district.
+#[tactic(auto, using(crate::proofs::Free::few_vertices), unfolding(refusals::specs::Verdicts::verdict))]
+fn judged(store: &Store, cut: Cut, path: &[i32]) -> Result<usize, Refusal>
+    ensures { Judged result (verdict (district_tests store.now.runs.list.now cut.d cut.i cut.j path.now)) (lowest_free store.now.runs.list.now) }
 {
-    let k = path.len() / 2;
-    let one = 1 + steps(n, i, j) + k;
-    let two = 1 + steps(n, j, i) + k;
-    if (one < FEWEST_VERTICES) | (two < FEWEST_VERTICES) {
-        return Verdict::Refused(Refusal::TooFew);
+    if NUMBERS <= cut.d {
+        return Err(Refusal::BadNumber);
     }
-    let free = lowest_unused(runs);
-    if NUMBERS <= free {
-        return Verdict::Refused(Refusal::NumbersInUse);
+    let n = store.runs.size(cut.d);
+    if n == 0 {
+        return Err(Refusal::BadNumber);
     }
-    let all = districts::total(runs);
-    if MOST_VERTICES < all + ENDS + path.len() {
-        return Verdict::Refused(Refusal::NoRoom);
-    }
-    Verdict::Accepted
-}
-
-// Refusals 8, 4 and 5, then those.
-fn judge_cut(runs: &[u32], n: usize, i: usize, j: usize, path: &[i32]) -> Verdict
-    requires runs_len { length runs.now ≡ 129 }
-    requires n_bound { n ≤ 2048 }
-    requires runs_bound { total_of runs.now ≤ 2048 }
-    ensures { verdict_of result ≡ verdict (cut_tests n (total_of runs.now) (lowest_free runs.now) i j path.now) }
-{
-    if ((n <= i) | (n <= j)) | (i == j) {
-        return Verdict::Refused(Refusal::BadIndex);
+    if ((n <= cut.i) | (n <= cut.j)) | (cut.i == cut.j) {
+        return Err(Refusal::BadIndex);
     }
     if path.len() % 2 == 1 {
-        return Verdict::Refused(Refusal::NoRing);
+        return Err(Refusal::NoRing);
     }
     if ring::some_beyond(path) {
-        return Verdict::Refused(Refusal::BeyondGrid);
+        return Err(Refusal::BeyondGrid);
     }
-    judge_pieces(runs, n, i, j, path)
+    let k = path.len() / 2;
+    let one = 1 + steps(n, cut.i, cut.j) + k;
+    let two = 1 + steps(n, cut.j, cut.i) + k;
+    if (one < FEWEST_VERTICES) | (two < FEWEST_VERTICES) {
+        return Err(Refusal::TooFew);
+    }
+    let Some(free) = lowest_unused(&store.runs) else {
+        return Err(Refusal::NumbersInUse);
+    };
+    if MOST_VERTICES < store.runs.total() + ENDS + path.len() {
+        return Err(Refusal::NoRoom);
+    }
+    Ok(free)
 }
 
-// Refusal 6, then those.
-fn judge_district(runs: &[u32], d: usize, i: usize, j: usize, path: &[i32]) -> Verdict
-    requires runs_len { length runs.now ≡ 129 }
-    requires runs_bound { total_of runs.now ≤ 2048 }
-    ensures { verdict_of result ≡ verdict (district_tests runs.now d i j path.now) }
+// Whether the split is refused, and why, where it is known whether the register is well-formed; otherwise the number of the new district.
+pub fn split(good: bool, lists: &Lists, cut: Cut, path: &[i32]) -> Result<usize, Refusal>
+    requires { good ≡ formed (lists_of lists.now) }
+    ensures { Judged result (verdict (split_tests (formed (lists_of lists.now)) (means (lists_of lists.now)) cut.d cut.i cut.j path.now)) (lowest_unused_of (means (lists_of lists.now))) }
 {
-    if !in_use(runs, d) {
-        return Verdict::Refused(Refusal::BadNumber);
-    }
-    judge_cut(runs, districts::size(runs, d), i, j, path)
-}
-
-// Whether the split is refused, and why, where it is known whether the register is well-formed.
-pub fn split(
-    good: bool,
-    ox: &[i32],
-    oy: &[i32],
-    sx: &[i32],
-    sy: &[i32],
-    runs: &[u32],
-    d: usize,
-    i: usize,
-    j: usize,
-    path: &[i32],
-) -> Verdict
-    requires { good ≡ formed (lent ox.now oy.now sx.now sy.now runs.now) }
-    ensures { verdict_of result ≡ verdict (split_tests (formed (lent ox.now oy.now sx.now sy.now runs.now)) (means (lent ox.now oy.now sx.now sy.now runs.now)) d i j path.now) }
-{
-    match districts::begins(good, runs) {
-        Verdict::Accepted => judge_district(runs, d, i, j, path),
-        Verdict::Refused(r) => Verdict::Refused(r),
-    }
+    let store = lists.begun(good)?;
+    judged(&store, cut, path)
 }

@@ -17,12 +17,15 @@ const WAIT_MILLISECONDS: u64 = 10;
 // What std puts behind the system's words for an error, with its number; it is not said.
 const NUMBERED: &str = " (os error ";
 
-// What a read brought: the buffer's bytes go to `end`; `going` while more may come, `failed` once the input can't be read.
+// What a read brought. A failed read is no `Err`: its reason was said already, and the program goes on to its end from it as from the others.
 #[derive(Clone, Copy)]
-pub struct Filled {
-    pub end: usize,
-    pub going: bool,
-    pub failed: bool,
+pub enum Filled {
+    // The buffer's bytes go to here, and more may come.
+    To(usize),
+    // Nothing, and nothing more comes.
+    AtEnd,
+    // The input can't be read.
+    Failed,
 }
 
 // The system's words alone.
@@ -65,17 +68,13 @@ pub fn read_behind<R: Runtime>(rt: &R, input: &mut [u8], n: usize) -> Filled
     ensures { Brought n result input.old input.new }
 {
     match rt.reader().read(&mut input[n..]) {
-        Ok(more) => Filled {
-            end: n + more,
-            going: 0 < more,
-            failed: false,
-        },
+        Ok(0) => Filled::AtEnd,
+        Ok(more) => Filled::To(n + more),
         Err(error) => {
-            let going = is_tried_again(rt, error, "launchramp: the input could not be read");
-            Filled {
-                end: n,
-                going,
-                failed: !going,
+            if is_tried_again(rt, error, "launchramp: the input could not be read") {
+                Filled::To(n)
+            } else {
+                Filled::Failed
             }
         }
     }
@@ -94,18 +93,19 @@ fn write_some<R: Runtime>(rt: &R, text: &[u8]) -> io::Result<usize>
 
 // Writes all of the text, going on where a write stopped, and answers whether it could.
 pub fn written<R: Runtime>(rt: &R, text: &[u8]) -> bool {
-    let mut done = 0;
-    let mut tries = TRIES;
-    while (done < text.len()) & (0 < tries) {
-        match write_some(rt, &text[done..]) {
-            Ok(put) => done += put,
+    let mut left = text;
+    for _ in 0..TRIES {
+        if left.is_empty() {
+            break;
+        }
+        match write_some(rt, left) {
+            Ok(put) => left = &left[put..],
             Err(error) => {
                 if !is_tried_again(rt, error, "launchramp: the output could not be written") {
                     return false;
                 }
             }
         }
-        tries -= 1;
     }
-    done == text.len()
+    left.is_empty()
 }

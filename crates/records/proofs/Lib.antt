@@ -1,5 +1,4 @@
 pub mod Reading
-pub mod Doubles
 pub mod Fronts
 pub mod RoundTrip
 pub mod Unique

@@ -1,10 +1,11 @@
 -- More bytes behind do not change what stands at the front, once it is more than the beginning of a record. Assumes nothing.
-use Prim.Native.Nat.{ℕ, zero, suc, ◌+◌, ◌*◌, ◌≤◌}
+use Prim.Native.Nat.{ℕ, zero, suc, ◌+◌, ◌-◌, ◌*◌, ◌≤◌}
 use native.Mathlib.Omega.{arith}
 use mathlib.Core.Path.{◌≡◌, refl, sym, ap, subst, ◌∙◌}
 use mathlib.Core.Bool.{Bool, true, false, not, ◌&&◌}
 use mathlib.Core.List.{List, ◌∷◌, ◌++◌}
 use lib.Dec.{ltb, eqb}
+use lib.IntN.{ℤ}
 use lib.ListN.{length, take, drop, length-drop, length-append}
 use lib.Seq.{take-append-le, drop-append-le}
 use lib.Ieee.{binary64, of_bits}
@@ -14,8 +15,8 @@ use Rattle.ring.proofs.Pick.{pick-false}
 use Rattle.register.specs.declared.Position.TheVariants.{Grid, Fix, Missing}
 use Rattle.history.specs.Histories.{Call, founding, splitting, merging, reporting}
 use Rattle.records.specs.Bytes.{little_endian, field, signed, signed_fields}
-use Rattle.records.specs.Layout.{Front, whole, more, broken, first_mark, second_mark, from, up_to, outline_front, split_front, merge_front, grid_front, fix_front, position_front, by_kind, front}
-use Rattle.records.proofs.Fronts.{by_what}
+use Rattle.records.specs.Layout.{Front, whole, more, broken, first_mark, second_mark, from, up_to, pairs_front, outline_front, split_front, merge_front, grid_front, fix_front, position_front, by_kind, front}
+use Rattle.records.proofs.Fronts.{by_what, splits}
 
 -- what is decided stays
 abbrev Keeps : Front → Front → Type 0
@@ -56,29 +57,27 @@ module _ (bytes rest : List ℕ) where
 
   -- ---- by kind
 
-  keeps-outline : Keeps (outline_front bytes) (outline_front all)
-  keeps-outline = keeps-from 5 (behind bytes (field bytes 3 2)) (behind all (field all 3 2)) (λ h. subst (λ n. Keeps (behind bytes (field bytes 3 2)) (behind all n)) (sym (field-same 3 2 h)) (same (field bytes 3 2)))
+  -- pairs, and a call of them that is the same once there are so many bytes
+  keeps-pairs : (at : ℕ) (call call' : List ℤ → Call) → 2 ≤ at → (at ≤ length bytes → call ≡ call') → Keeps (pairs_front bytes at call) (pairs_front all at call')
+  keeps-pairs at call call' least told =
+      keeps-from at _ _ (λ h. subst (λ n. Keeps (behind bytes (field bytes (at - 2) 2) call) (behind all n call')) (sym (field-same (at - 2) 2 (omega (arith, least, h)))) (same (field bytes (at - 2) 2) (told h)))
     where
-      behind : List ℕ → ℕ → Front
-      behind l n = pick (ltb 2048 n) broken (up_to l (5 + 8 * n) (founding (signed_fields l 5 (2 * n))))
+      behind : List ℕ → ℕ → (List ℤ → Call) → Front
+      behind l n c = pick (ltb 2048 n) broken (up_to l (at + 8 * n) (c (signed_fields l at (2 * n))))
 
-      same : (n : ℕ) → Keeps (behind bytes n) (behind all n)
-      same n = keeps-pick (ltb 2048 n) broken broken _ _ refl (keeps-up-to (5 + 8 * n) _ _ (λ h. ap founding (sym (signed_same (2 * n) 5 (omega (arith, h))))))
+      same : (n : ℕ) → call ≡ call' → Keeps (behind bytes n call) (behind all n call')
+      same n e = keeps-pick (ltb 2048 n) broken broken _ _ refl (keeps-up-to (at + 8 * n) _ _ (λ h. λ t. e t (sym (signed_same (2 * n) at (omega (arith, h))) t)))
+
+  keeps-outline : Keeps (outline_front bytes) (outline_front all)
+  keeps-outline = keeps-pairs 5 founding founding (omega arith) (λ h. refl)
 
   keeps-split : Keeps (split_front bytes) (split_front all)
-  keeps-split = keeps-from 10 (behind bytes (field bytes 8 2)) (behind all (field all 8 2)) (λ h. subst (λ k. Keeps (behind bytes (field bytes 8 2)) (behind all k)) (sym (field-same 8 2 h)) (same (field bytes 8 2)))
-    where
-      behind : List ℕ → ℕ → Front
-      behind l k = pick (ltb 2048 k) broken (up_to l (10 + 8 * k) (splitting (field l 3 1) (field l 4 2) (field l 6 2) (signed_fields l 10 (2 * k))))
-
-      same : (k : ℕ) → Keeps (behind bytes k) (behind all k)
-      same k =
-          keeps-pick (ltb 2048 k) broken broken _ _ refl (keeps-up-to (10 + 8 * k) _ _ (λ h.
-          let d = field-same 3 1 (omega (arith, h)) in
-          let i = field-same 4 2 (omega (arith, h)) in
-          let j = field-same 6 2 (omega (arith, h)) in
-          let path = signed_same (2 * k) 10 (omega (arith, h)) in
-          λ t. splitting (sym d t) (sym i t) (sym j t) (sym path t)))
+  keeps-split =
+      keeps-pairs 10 (splits bytes) (splits all) (omega arith) (λ h.
+      let d = field-same 3 1 (omega (arith, h)) in
+      let i = field-same 4 2 (omega (arith, h)) in
+      let j = field-same 6 2 (omega (arith, h)) in
+      λ t. splitting (sym d t) (sym i t) (sym j t))
 
   keeps_merge : Keeps (merge_front bytes) (merge_front all)
   keeps_merge =

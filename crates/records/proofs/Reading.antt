@@ -4,16 +4,17 @@ use native.Mathlib.Nat.{zero-add, suc-add, pow-succ'}
 use native.Mathlib.Numerals.{add-one}
 use native.Mathlib.Omega.{arith}
 use mathlib.Core.Path.{◌≡◌, refl, sym, ap, ◌∙◌}
-use mathlib.Core.Bool.{cond}
+use mathlib.Core.Bool.{Bool, true, false}
 use mathlib.Core.List.{List, [], ◌∷◌, ◌++◌}
-use lib.IntN.{ℤ, pos, negsuc, ◌-ℤ◌}
-use lib.ListN.{length, get_or, take, drop, set, length-set, length-drop}
-use lib.Seq.{drop-cons, drop-drop, paste, paste-zero, paste-suc, take-length}
-use borrow.Author.Tests.{lt-ltb, le-ltb}
-use mir.Syntax.{w32, w64}
-use mir.Val.{to_z}
-use mir.Facts.{to_z_pos}
-use Rattle.ring.proofs.Pick.{pick_true, pick-false}
+use lib.IntN.{ℤ, pos, negsuc}
+use lib.ListN.{length, get_or, take, drop, set, length-drop}
+use lib.Seq.{drop-cons, paste, paste-suc, take-length}
+use lib.Dec.{ltb}
+use mir.Syntax.{w32}
+use mir.Val.{to_z, sel}
+use Rattle.std.specs.Int.{byte_worth, sum_through}
+use Rattle.std.proofs.lemmas.List.{length-take-le, take-take}
+use Rattle.ring.specs.Choices.{pick}
 use Rattle.districts.specs.Lent.{written}
 use Rattle.records.specs.Bytes.{little_endian, field, signed, signed_fields}
 
@@ -34,23 +35,30 @@ in_two (suc w) v (b ∷ l) h =
     let weight = ap (λ p. p * little_endian (take v (drop w l))) (pow-succ' 256 w) in
     omega (arith, whole, behind, weight)
 
--- a number of twice as many bytes
-pub twice-as-long : (bytes : List ℕ) (at w : ℕ) → at + 2 * w ≤ length bytes → field bytes at (w + w) ≡ field bytes at w + 256 ^ w * field bytes (at + w) w
-twice-as-long bytes at w h = in_two w w (drop at bytes) (omega (arith, length-drop at bytes)) ∙ ap (λ l. field bytes at w + 256 ^ w * little_endian (take w l)) (drop-drop w at bytes)
+-- a sum of bytes by their places, as the library puts a number together
+through : (k : ℕ) (l : List ℕ) → k < length l → sum_through (λ i. byte_worth i (get_or l i 0)) k ≡ little_endian (take (suc k) l)
+through zero l h = one_byte l 0 h
+through (suc k) l h =
+    let front = through k l (omega arith) in
+    let last = ap (λ b. b * 256 ^ suc k) (one_byte l (suc k) h) in
+    let all = in_two (suc k) 1 l (omega arith) in
+    let long = ap (λ n. little_endian (take n l)) (add-one (suc k)) in
+    omega (arith, front, last, all, long)
+
+pub assembled : (bytes xs : List ℕ) (at k : ℕ) → at + suc k ≤ length bytes → xs ≡ take (suc k) (drop at bytes) → sum_through (λ i. byte_worth i (get_or xs i 0)) k ≡ field bytes at (suc k)
+assembled bytes xs at k h e =
+    let there : k < length (drop at bytes) = omega (arith, h, length-drop at bytes) in
+    let long = length-take-le (suc k) (drop at bytes) there in
+    through k xs (omega (arith, ap length e, long)) ∙ ap (λ l. little_endian (take (suc k) l)) e ∙ ap little_endian (take-take (suc k) (suc k) (drop at bytes) (omega arith))
 
 -- ---- signed
 
-pub lower-half : (n : ℕ) → n < 2147483648 → to_z w32 n ≡ signed n
-lower-half n h = to_z_pos w32 h ∙ sym (pick_true (lt-ltb n 2147483648 h) _ _)
+chosen : (b : Bool) (x y : ℤ) → sel b x y ≡ pick b x y
+chosen true x y = refl
+chosen false x y = refl
 
-pub upper-half : (n : ℕ) → 2147483648 ≤ n → signed n ≡ negsuc (4294967295 - n)
-upper-half n h = pick-false (le-ltb n 2147483648 h) _ _
-
-less-all : (n : ℕ) → n < 4294967296 → pos n -ℤ pos 4294967296 ≡ negsuc (4294967295 - n)
-less-all n h = ap (λ b. cond b (negsuc (4294967296 - suc n)) (pos (n - 4294967296))) (lt-ltb n 4294967296 h) ∙ ap negsuc (let e : 4294967296 - suc n ≡ 4294967295 - n = omega arith in e)
-
-pub taken-down : (n : ℕ) → n < 4294967296 → to_z w64 n -ℤ pos 4294967296 ≡ negsuc (4294967295 - n)
-taken-down n h = ap (λ z. z -ℤ pos 4294967296) (let f : to_z w64 n ≡ pos n = to_z_pos w64 (let h : n < 2 ^ 63 = omega arith in h) in f) ∙ less-all n h
+pub signed-is : (n : ℕ) → to_z w32 n ≡ signed n
+signed-is n = chosen (ltb n 2147483648) (pos n) (negsuc (4294967296 - suc n)) ∙ ap (λ m. pick (ltb n 2147483648) (pos n) (negsuc m)) (omega arith)
 
 -- ---- one after the other
 
@@ -65,26 +73,15 @@ signed-at bytes at zero k h = absurd (let f : ⊥ = omega arith in f)
 signed-at bytes at (suc m) zero h = ap (λ p. signed (field bytes p 4)) (let e : at ≡ at + 4 * 0 = omega arith in e)
 signed-at bytes at (suc m) (suc k) h = signed-at bytes (at + 4) m k (omega arith) ∙ ap (λ p. signed (field bytes p 4)) (let e : at + 4 + 4 * k ≡ at + 4 * suc k = omega arith in e)
 
-pub record Read (bytes : List ℕ) (at m : ℕ) (to₀ to : List ℤ) (k : ℕ) : Type 0 where
-  pub le : k ≤ m
-  pub long : length to ≡ length to₀
-  pub so_far : to ≡ paste to₀ 0 (signed_fields bytes at m) k
+-- written one after the other: one more, and all
+pub written-more : (bytes : List ℕ) (at m : ℕ) (to₀ to : List ℤ) (k : ℕ) (v : ℤ) → m ≤ length to₀ → k < m → v ≡ signed (field bytes (at + 4 * k) 4)
+    → to ≡ paste to₀ 0 (signed_fields bytes at m) k → set to k v ≡ paste to₀ 0 (signed_fields bytes at m) (k + 1)
+written-more bytes at m to₀ to k v room h e so_far =
+    (λ t. set (so_far t) (sym (zero-add k) t) ((e ∙ sym (signed-at bytes at m k h)) t))
+    ∙ paste-suc to₀ 0 (signed_fields bytes at m) k (pos 0) (omega arith) (omega (arith, signed-long bytes at m))
+    ∙ ap (paste to₀ 0 (signed_fields bytes at m)) (sym (add-one k))
 
-pub read_none : (bytes : List ℕ) (at m : ℕ) (to : List ℤ) → Read bytes at m to to 0
-read_none bytes at m to = record { le = omega arith; long = refl; so_far = paste-zero to 0 (signed_fields bytes at m) }
-
-pub read_more : (bytes : List ℕ) (at m : ℕ) (to₀ to : List ℤ) (k : ℕ) (v : ℤ) → m ≤ length to₀ → k < m → v ≡ signed (field bytes (at + 4 * k) 4) → Read bytes at m to₀ to k → Read bytes at m to₀ (set to k v) (k + 1)
-read_more bytes at m to₀ to k v room h e r = record {
-  le = omega arith;
-  long = length-set to k v ∙ r.long;
-  so_far =
-      (λ t. set (r.so_far t) (sym (zero-add k) t) ((e ∙ sym (signed-at bytes at m k h)) t))
-      ∙ paste-suc to₀ 0 (signed_fields bytes at m) k (pos 0) (omega arith) (omega (arith, signed-long bytes at m))
-      ∙ ap (paste to₀ 0 (signed_fields bytes at m)) (sym (add-one k));
-}
-
-pub read_all : (bytes : List ℕ) (at m : ℕ) (to₀ to : List ℤ) (k : ℕ) → m ≤ k → Read bytes at m to₀ to k → to ≡ written (signed_fields bytes at m) to₀
-read_all bytes at m to₀ to k h r =
+pub written-all : (bytes : List ℕ) (at m k : ℕ) (to₀ to : List ℤ) → k ≡ m → to ≡ paste to₀ 0 (signed_fields bytes at m) k → to ≡ written (signed_fields bytes at m) to₀
+written-all bytes at m k to₀ to all so_far =
     let xs = signed_fields bytes at m in
-    let all : k ≡ length xs = omega (arith, r.le, signed-long bytes at m) in
-    r.so_far ∙ ap (paste to₀ 0 xs) all ∙ (λ t. take-length xs t ++ drop (zero-add (length xs) t) to₀)
+    so_far ∙ ap (paste to₀ 0 xs) (all ∙ sym (signed-long bytes at m)) ∙ (λ t. take-length xs t ++ drop (zero-add (length xs) t) to₀)

@@ -18,9 +18,9 @@ use Rattle.register.specs.declared.Position.{Position}
 use Rattle.register.specs.declared.Position.TheVariants.{Grid, Fix, Missing}
 use Rattle.history.specs.Histories.{Call, founding, splitting, merging, reporting}
 use Rattle.records.specs.Bytes.{little_endian, field, signed, signed_fields}
-use Rattle.records.specs.Layout.{whole, broken, up_to, grid_front, fix_front, front}
-use Rattle.records.specs.Encoding.{in_front, bits, all_in_front, position_in_front, encode_position, encode_report, encode, Fits, AllFit, Sendable, Encodable}
-use Rattle.records.proofs.Fronts.{enough, announced-few}
+use Rattle.records.specs.Layout.{whole, broken, up_to, pairs_front, grid_front, fix_front, front}
+use Rattle.records.specs.Encoding.{in_front, bits, all_in_front, position_in_front, encode_position, encode_report, encode, Fits, AllFit, Pairs, Sendable, Encodable}
+use Rattle.records.proofs.Fronts.{enough, announced-few, splits}
 
 -- ---- fields
 
@@ -79,34 +79,31 @@ merge-back A a B b k rest h =
     ∙ enough bytes 11 _ (omega arith)
     ∙ (λ t. whole (merging (number-back 1 A [] h.0 t) (number-back 2 a [] h.1 t) (number-back 1 B [] h.2 t) (number-back 2 b [] h.3 t) (number-back 2 k [] h.4 t)) 11)
 
+-- pairs that stand from a place on, announced before it
+pairs-back : (bytes rest : List ℕ) (at : ℕ) (call : List ℤ → Call) (xs : List ℤ) → at ≤ length bytes → drop at bytes ≡ all_in_front xs rest → field bytes (at - 2) 2 ≡ length xs / 2 → Pairs xs
+    → pairs_front bytes at call ≡ whole (call xs) (at + 8 * (length xs / 2))
+pairs-back bytes rest at call xs there e announced pairs =
+    let n = length xs / 2 in
+    let twice : 2 * n ≡ length xs = omega (arith, pairs.even) in
+    enough bytes at _ there
+    ∙ (λ t. pick (ltb 2048 (announced t)) broken (up_to bytes (at + 8 * announced t) (call (signed_fields bytes at (2 * announced t)))))
+    ∙ announced-few n _ pairs.most
+    ∙ enough bytes (at + 8 * n) _ (omega (arith, there, twice, ap length e, length-drop at bytes, all-long xs rest))
+    ∙ ap (λ l. whole (call l) (at + 8 * n)) (ap (signed_fields bytes at) twice ∙ all_back xs bytes rest at e pairs.fit)
+
 split-back : (d i j : ℕ) (path : List ℤ) (rest : List ℕ) → Encodable (splitting d i j path) → front (encode (splitting d i j path) rest) ≡ whole (splitting d i j path) (10 + 8 * (length path / 2))
 unfolding front encode in_front little_endian
 split-back d i j path rest h =
     let bytes = encode (splitting d i j path) rest in
-    let pairs = h.3 in
-    let k = length path / 2 in
-    let announced : field bytes 8 2 ≡ k = number-back 2 k [] (omega (arith, pairs.most)) in
-    let twice : 2 * k ≡ length path = omega (arith, pairs.even) in
     enough bytes 3 _ (omega arith)
-    ∙ enough bytes 10 _ (omega arith)
-    ∙ (λ t. pick (ltb 2048 (announced t)) broken (up_to bytes (10 + 8 * announced t) (splitting (number-back 1 d [] h.0 t) (number-back 2 i [] h.1 t) (number-back 2 j [] h.2 t) (signed_fields bytes 10 (2 * announced t)))))
-    ∙ announced-few k _ pairs.most
-    ∙ enough bytes (10 + 8 * k) _ (omega (arith, all-long path rest, pairs.even))
-    ∙ (λ t. whole (splitting d i j ((ap (signed_fields bytes 10) twice ∙ all_back path bytes rest 10 refl pairs.fit) t)) (10 + 8 * k))
+    ∙ pairs-back bytes rest 10 (splits bytes) path (omega arith) refl (number-back 2 (length path / 2) [] (omega (arith, h.3.most))) h.3
+    ∙ (λ t. whole (splitting (number-back 1 d [] h.0 t) (number-back 2 i [] h.1 t) (number-back 2 j [] h.2 t) path) (10 + 8 * (length path / 2)))
 
 found_back : (xs : List ℤ) (rest : List ℕ) → Encodable (founding xs) → front (encode (founding xs) rest) ≡ whole (founding xs) (5 + 8 * (length xs / 2))
 unfolding front encode in_front little_endian
 found_back xs rest pairs =
     let bytes = encode (founding xs) rest in
-    let n = length xs / 2 in
-    let announced : field bytes 3 2 ≡ n = number-back 2 n [] (omega (arith, pairs.most)) in
-    let twice : 2 * n ≡ length xs = omega (arith, pairs.even) in
-    enough bytes 3 _ (omega arith)
-    ∙ enough bytes 5 _ (omega arith)
-    ∙ (λ t. pick (ltb 2048 (announced t)) broken (up_to bytes (5 + 8 * announced t) (founding (signed_fields bytes 5 (2 * announced t)))))
-    ∙ announced-few n _ pairs.most
-    ∙ enough bytes (5 + 8 * n) _ (omega (arith, all-long xs rest, pairs.even))
-    ∙ (λ t. whole (founding ((ap (signed_fields bytes 5) twice ∙ all_back xs bytes rest 5 refl pairs.fit) t)) (5 + 8 * n))
+    enough bytes 3 _ (omega arith) ∙ pairs-back bytes rest 5 founding xs (omega arith) refl (number-back 2 (length xs / 2) [] (omega (arith, pairs.most))) pairs
 
 -- ---- reports
 

@@ -1,16 +1,18 @@
 -- How many bytes a whole record has: at least its head, no more than there are, and no more than the longest record. Assumes nothing.
-use Prim.Native.Nat.{ℕ, ◌+◌, ◌*◌, ◌≤◌}
+use Prim.Native.Nat.{ℕ, ◌+◌, ◌-◌, ◌*◌, ◌≤◌}
 use native.Mathlib.Omega.{arith}
 use mathlib.Core.Path.{◌≡◌, refl, subst}
 use mathlib.Core.Bool.{Bool, true, false, not, ◌&&◌}
 use mathlib.Core.List.{List}
 use lib.Dec.{ltb, eqb}
+use lib.IntN.{ℤ}
 use lib.ListN.{length}
 use borrow.Author.Tests.{ltb-false}
 use Rattle.ring.specs.Choices.{pick}
-use Rattle.history.specs.Histories.{Call}
+use Rattle.history.specs.Histories.{Call, founding}
 use Rattle.records.specs.Bytes.{field}
-use Rattle.records.specs.Layout.{Front, whole, more, broken, first_mark, second_mark, from, up_to, outline_front, split_front, position_front, by_kind, front}
+use Rattle.records.specs.Layout.{Front, whole, more, broken, first_mark, second_mark, from, up_to, pairs_front, position_front, by_kind, front}
+use Rattle.records.proofs.Fronts.{splits}
 
 -- a split of 2,048 points is the longest record
 pub record Size (bytes : List ℕ) (n : ℕ) : Type 0 where
@@ -37,11 +39,9 @@ sized-up-to bytes n c least most = sized-from bytes n (whole c n) (λ there. rec
 sized-announced : (bytes : List ℕ) (n : ℕ) (f : Front) → (n ≤ 2048 → Sized bytes f) → Sized bytes (pick (ltb 2048 n) broken f)
 sized-announced bytes n f h = either (Sized bytes) (ltb 2048 n) broken f (λ e. tt) (λ e. h (ltb-false 2048 n e))
 
-sized-outline : (bytes : List ℕ) → Sized bytes (outline_front bytes)
-sized-outline bytes = sized-from bytes 5 _ (λ h. sized-announced bytes (field bytes 3 2) _ (λ few. sized-up-to bytes (5 + 8 * field bytes 3 2) _ (omega arith) (omega (arith, few))))
-
-sized-split : (bytes : List ℕ) → Sized bytes (split_front bytes)
-sized-split bytes = sized-from bytes 10 _ (λ h. sized-announced bytes (field bytes 8 2) _ (λ few. sized-up-to bytes (10 + 8 * field bytes 8 2) _ (omega arith) (omega (arith, few))))
+sized-pairs : (bytes : List ℕ) (at : ℕ) (call : List ℤ → Call) → 3 ≤ at → at ≤ 10 → Sized bytes (pairs_front bytes at call)
+sized-pairs bytes at call least most =
+    sized-from bytes at _ (λ h. sized-announced bytes (field bytes (at - 2) 2) _ (λ few. sized-up-to bytes (at + 8 * field bytes (at - 2) 2) _ (omega (arith, least)) (omega (arith, most, few))))
 
 sized-position : (bytes : List ℕ) → Sized bytes (position_front bytes)
 sized-position bytes =
@@ -53,8 +53,8 @@ sized-position bytes =
 
 sized-kind : (bytes : List ℕ) (kind : ℕ) → Sized bytes (by_kind kind bytes)
 sized-kind bytes kind =
-    either (Sized bytes) (eqb kind 1) _ _ (λ e. sized-outline bytes) (λ e.
-    either (Sized bytes) (eqb kind 2) _ _ (λ e. sized-split bytes) (λ e.
+    either (Sized bytes) (eqb kind 1) _ _ (λ e. sized-pairs bytes 5 founding (omega arith) (omega arith)) (λ e.
+    either (Sized bytes) (eqb kind 2) _ _ (λ e. sized-pairs bytes 10 (splits bytes) (omega arith) (omega arith)) (λ e.
     either (Sized bytes) (eqb kind 3) _ _ (λ e. sized-up-to bytes 11 _ (omega arith) (omega arith)) (λ e.
     either (Sized bytes) (eqb kind 4) _ _ (λ e. sized-up-to bytes 15 _ (omega arith) (omega arith)) (λ e.
     either (Sized bytes) (eqb kind 5) _ _ (λ e. sized-position bytes) (λ e. tt)))))

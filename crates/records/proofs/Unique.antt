@@ -1,45 +1,44 @@
 -- No second outcome fits the promise of decoding. Assumes nothing.
-use Prim.Native.Nat.{ℕ, ◌-◌, ◌/◌}
-use native.Mathlib.Omega.{arith}
-use mathlib.Core.Path.{◌≡◌, refl, sym, ap, ◌∙◌}
-use mathlib.Core.List.{List}
-use lib.IntN.{ℤ}
+use Rattle.std.proofs.Common.{ℕ, ◌-◌, ◌/◌, ◌≡◌, refl, sym, ap, ◌∙◌, arith, List, ℤ, Some, None, Ok, Err, IsOkUnless}
+use Rattle.refusals.specs.declared.Refusal.TheVariants.{BrokenRecord}
 use Rattle.history.specs.Histories.{Call, founding, splitting, merging, reporting}
-use Rattle.records.specs.declared.Decoded.{Decoded}
-use Rattle.records.specs.declared.Front as Code
-use Rattle.records.specs.declared.Front.TheVariants.{Outline, Split, Merge, Report, More, Broken}
+use Rattle.records.specs.declared.Record as Code
+use Rattle.records.specs.declared.Record.TheVariants.{Outline, Split, Merge, Report}
 use Rattle.records.specs.Layout.{Front, whole, more, broken}
-use Rattle.records.specs.Decoding.{front_of, Decodes}
+use Rattle.records.specs.Decoding.{record_of, front_of, taken_of, Decodes}
+use Rattle.records.proofs.Fronts.{Answer}
 
--- the code's answer read back
-abbrev of_call : Call → ℕ → Code.Front
+-- the record read back
+abbrev of_call : Call → ℕ → Code.Record
 of_call (founding xs) n = Outline ((n - 5) / 8)
-of_call (splitting d i j path) n = Split d i j ((n - 10) / 8)
-of_call (merging A a B b k) n = Merge A a B b k
+of_call (splitting d i j path) n = Split (record { d = d; i = i; j = j }) ((n - 10) / 8)
+of_call (merging A a B b k) n = Merge (record { kept = A; a = a; gone = B; b = b; k = k })
 of_call (reporting r p) n = Report (record { number = r; position = p })
 
-abbrev code_of : Front → Code.Front
-code_of (whole c n) = of_call c n
-code_of more = More
-code_of broken = Broken
+-- the answer read back, of the bytes that it takes
+abbrev answer_of : Front → ℕ → Answer
+answer_of (whole c n) taken = Ok (Some (record { «record» = of_call c n; taken = taken }))
+answer_of more taken = Ok None
+answer_of broken taken = Err BrokenRecord
 
-code-back : (q : Code.Front) (taken : ℕ) (to : List ℤ) → code_of (front_of q taken to) ≡ q
-code-back (Outline n) taken to = ap Outline (omega arith)
-code-back (Split d i j k) taken to = ap (Split d i j) (omega arith)
-code-back (Merge A a B b k) taken to = refl
-code-back (Report s) taken to = refl
-code-back More taken to = refl
-code-back Broken taken to = refl
+record-back : (r : Code.Record) (taken : ℕ) (to : List ℤ) → answer_of (record_of r taken to) taken ≡ Ok (Some (record { «record» = r; taken = taken }))
+record-back (Outline n) taken to = ap (λ k. Ok (Some (record { «record» = Outline k; taken = taken }))) (omega arith)
+record-back (Split c k) taken to = ap (λ k. Ok (Some (record { «record» = Split c k; taken = taken }))) (omega arith)
+record-back (Merge s) taken to = refl
+record-back (Report s) taken to = refl
+
+answer-back : (r : Answer) (to : List ℤ) → IsOkUnless r BrokenRecord → answer_of (front_of r to) (taken_of r) ≡ r
+answer-back (Ok (Some d)) to h = record-back d.record d.taken to
+answer-back (Ok None) to h = refl
+answer-back (Err r) to h = ap Err (sym h)
 
 -- two outcomes of one decoding are the same answer and leave the same list
-pub record Same (r s : Decoded) (after after' : List ℤ) : Type 0 where
-  pub front : r.front ≡ s.front
-  pub taken : r.taken ≡ s.taken
+pub record Same (r s : Answer) (after after' : List ℤ) : Type 0 where
+  pub answer : r ≡ s
   pub list : after ≡ after'
 
-pub one-decoding : (f : Front) (r s : Decoded) (before after after' : List ℤ) → Decodes r f before after → Decodes s f before after' → Same r s after after'
+pub one-decoding : (f : Front) (r s : Answer) (before after after' : List ℤ) → Decodes r f before after → Decodes s f before after' → Same r s after after'
 one-decoding f r s before after after' d e = record {
-  front = sym (code-back r.front r.taken after) ∙ ap code_of (d.said ∙ sym e.said) ∙ code-back s.front s.taken after';
-  taken = d.counted ∙ sym e.counted;
+  answer = sym (answer-back r after d.refused) ∙ (λ i. answer_of ((d.said ∙ sym e.said) i) ((d.counted ∙ sym e.counted) i)) ∙ answer-back s after' e.refused;
   list = d.left ∙ sym e.left;
 }

@@ -1,5 +1,5 @@
 -- docs/RULES.md, "The record stream": what stands at the front of a stream's bytes. Assumes nothing.
-use Rattle.std.specs.Prelude.{ℕ, ◌+◌, ◌*◌, not, ◌&&◌, List, eqb, ltb, length, Float}
+use Rattle.std.specs.Prelude.{ℕ, ◌+◌, ◌-◌, ◌*◌, not, ◌&&◌, List, ℤ, eqb, ltb, length, Float}
 use Rattle.std.specs.Float.{binary64}
 use Rattle.std.specs.Float.Ieee.{of_bits}
 use Rattle.ring.specs.Choices.{pick}
@@ -29,20 +29,20 @@ from bytes n f = pick (ltb (length bytes) n) more f
 abbrev pub up_to : List ℕ → ℕ → Call → Front
 up_to bytes n c = from bytes n (whole c n)
 
--- kind 1, outline: n (16 bits), n pairs of signed 32-bit x, y
-abbrev pub outline_front : List ℕ → Front
-outline_front bytes = from bytes 5 (pick (ltb most_vertices n) broken (up_to bytes (5 + 8 * n) (founding (signed_fields bytes 5 (2 * n)))))
+-- pairs of signed 32-bit x, y from a place on, which end the record; how many (16 bits) stands right before them
+abbrev pub pairs_front : List ℕ → ℕ → (List ℤ → Call) → Front
+pairs_front bytes at call = from bytes at (pick (ltb most_vertices n) broken (up_to bytes (at + 8 * n) (call (signed_fields bytes at (2 * n)))))
   where
     n : ℕ
-    n = field bytes 3 2
+    n = field bytes (at - 2) 2
+
+-- kind 1, outline: n (16 bits), n pairs
+abbrev pub outline_front : List ℕ → Front
+outline_front bytes = pairs_front bytes 5 founding
 
 -- kind 2, split: d (8), i, j, k (16 each), k pairs
 abbrev pub split_front : List ℕ → Front
-split_front bytes =
-    from bytes 10 (pick (ltb most_vertices k) broken (up_to bytes (10 + 8 * k) (splitting (field bytes 3 1) (field bytes 4 2) (field bytes 6 2) (signed_fields bytes 10 (2 * k)))))
-  where
-    k : ℕ
-    k = field bytes 8 2
+split_front bytes = pairs_front bytes 10 (splitting (field bytes 3 1) (field bytes 4 2) (field bytes 6 2))
 
 -- kind 3, merge: A (8), a (16), B (8), b (16), k (16)
 abbrev pub merge_front : List ℕ → Front

@@ -1,91 +1,55 @@
-// The fields of a record: numbers of one, two, four and eight bytes, little-endian, signed ones of four, and doubles of eight.
-ghost use Rattle.std.specs.Prelude.{◌≡◌, ◌+◌, ◌*◌, ◌^◌, ◌<◌, ◌≤◌, length};
-ghost use Rattle.std.specs.Float.{binary64};
-ghost use Rattle.std.specs.Float.Ieee.{of_bits};
+// The fields of a record: little-endian numbers of two and four bytes, signed ones of four, and doubles of eight.
+ghost use Rattle.std.specs.Prelude.{◌≡◌, ◌+◌, ◌*◌, ◌≤◌, length, take, drop};
 ghost use Rattle.districts.specs.Lent.{written};
 ghost use Rattle.records.specs.Bytes.{field, signed as signed_of, signed_fields};
+ghost use Rattle.records.specs.Layout.{double as double_of};
 
-// How many numbers one, two and four bytes can be; half of what four can be, and all of it, to be taken off a signed number.
-const ONE_BYTE: usize = 256;
+use std::num::f64_from_bits_with_nan;
 
-const TWO_BYTES: usize = 65_536;
-
-const FOUR_BYTES: usize = 4_294_967_296;
-
-const HALF: usize = 2_147_483_648;
-
-const ALL: i64 = 4_294_967_296;
-
-// The weight of a double's sign, and the pattern of the infinity without one: NaNs are those above it.
-const SIGN: usize = 9_223_372_036_854_775_808;
-
-const INFINITY: usize = 9_218_868_437_227_405_312;
-
-fn wide(x: u8) -> usize
-    ensures { (result ≡ x) × (result < 256) }
+// The N bytes from a place on.
+fn array<const N: usize>(bytes: &[u8], at: usize) -> [u8; N]
+    requires { at + N ≤ length bytes.now }
+    ensures { result ≡ take N (drop at bytes.now) }
 {
-    x as usize
-}
-
-pub fn one(bytes: &[u8], at: usize) -> usize
-    requires { at < length bytes.now }
-    ensures { (result ≡ field bytes.now at 1) × (result < 256) }
-{
-    wide(bytes[at])
+    *bytes[at..at + N].as_array().unwrap()
 }
 
 pub fn two(bytes: &[u8], at: usize) -> usize
     requires { at + 2 ≤ length bytes.now }
-    ensures { (result ≡ field bytes.now at 2) × (result < 65536) }
+    ensures { result ≡ field bytes.now at 2 }
 {
-    one(bytes, at) + ONE_BYTE * one(bytes, at + 1)
+    u16::from_le_bytes(array(bytes, at)) as usize
 }
 
-pub fn four(bytes: &[u8], at: usize) -> usize
+pub fn four(bytes: &[u8], at: usize) -> u32
     requires { at + 4 ≤ length bytes.now }
-    ensures { (result ≡ field bytes.now at 4) × (result < 4294967296) }
+    ensures { result ≡ field bytes.now at 4 }
 {
-    two(bytes, at) + TWO_BYTES * two(bytes, at + 2)
+    u32::from_le_bytes(array(bytes, at))
 }
 
-pub fn eight(bytes: &[u8], at: usize) -> usize
+pub fn signed(bytes: &[u8], at: usize) -> i32
+    requires { at + 4 ≤ length bytes.now }
+    ensures { result ≡ signed_of (field bytes.now at 4) }
+{
+    i32::from_le_bytes(array(bytes, at))
+}
+
+// A pattern of any NaN is read as the one NaN.
+pub fn double(bytes: &[u8], at: usize) -> f64
     requires { at + 8 ≤ length bytes.now }
-    ensures { (result ≡ field bytes.now at 8) × (result < 2 ^ 64) }
+    ensures { result ≡ double_of bytes.now at }
 {
-    four(bytes, at) + FOUR_BYTES * four(bytes, at + 4)
+    f64_from_bits_with_nan(u64::from_le_bytes(array(bytes, at)))
 }
 
-// 64 bits as a double. `from_bits` is undefined at a NaN's pattern, so every one of them becomes the NaN that 0 / 0 is.
-pub fn double(bits: usize) -> f64
-    requires { bits < 2 ^ 64 }
-    ensures { result ≡ of_bits binary64 bits }
-{
-    if INFINITY < bits % SIGN {
-        return 0.0 / 0.0;
-    }
-    f64::from_bits(bits as u64)
-}
-
-// 32 bits as a signed number.
-pub fn signed(n: usize) -> i32
-    requires { n < 4294967296 }
-    ensures { result ≡ signed_of n }
-{
-    if n < HALF {
-        return n as i32;
-    }
-    (n as i64 - ALL) as i32
-}
-
-// Writes m signed numbers from a place on to the first places of a list.
+// Writes m signed numbers from a place on to the first places of a list. By index: the two go by strides of four and of one.
 pub fn signed_fields(bytes: &[u8], at: usize, m: usize, to: &mut [i32])
-    requires m_in_bounds { at + 4 * m ≤ length bytes.now }
-    requires m_in_bounds_2 { m ≤ length to.old }
+    requires there { at + 4 * m ≤ length bytes.now }
+    requires room { m ≤ length to.old }
     ensures { to.new ≡ written (signed_fields bytes.now at m) to.old }
 {
-    let mut k = 0;
-    while k < m {
-        to[k] = signed(four(bytes, at + 4 * k));
-        k += 1;
+    for k in 0..m {
+        to[k] = signed(bytes, at + 4 * k);
     }
 }

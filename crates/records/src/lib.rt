@@ -5,6 +5,7 @@
 mod decoding;
 mod fields;
 
+use changes::{Cut, Seam};
 pub use decoding::decode;
 use register::Position;
 
@@ -15,24 +16,20 @@ pub struct Sighting {
     pub position: Position,
 }
 
+// What a record asks for.
 #[derive(Clone, Copy)]
-pub enum Front {
+pub enum Record {
     // An outline of so many vertices, in the first places of the lent list.
     Outline(usize),
-    // A split's d, i, j and how many points its path has, in the first places of the lent list.
-    Split(usize, usize, usize, usize),
-    // A merge's A, a, B, b, k.
-    Merge(usize, usize, usize, usize, usize),
+    // A split, and how many points its path has, in the first places of the lent list.
+    Split(Cut, usize),
+    Merge(Seam),
     Report(Sighting),
-    // The beginning of a record.
-    More,
-    // Refusal 13.
-    Broken,
 }
 
-// What was decoded, and how many bytes it has.
+// A record, and how many bytes it has.
 #[derive(Clone, Copy)]
 pub struct Decoded {
-    pub front: Front,
+    pub record: Record,
     pub taken: usize,
 }

@@ -1,7 +1,6 @@
 -- Refusals as the rules order them: a table of tests, and the first that holds. Assumes nothing.
-use Rattle.std.specs.Prelude.{ℕ, Bool, true, false, List, [], ◌∷◌}
-use Rattle.refusals.specs.declared.Verdict as Code
-use Rattle.refusals.specs.declared.Verdict.TheVariants.{Accepted, Refused}
+use Rattle.std.specs.Prelude.{ℕ, Bool, true, false, List, [], ◌∷◌, Result, Ok, Err}
+use Rattle.refusals.specs.declared.Refusal.{Refusal}
 use Rattle.refusals.specs.Numbers.{number_of}
 
 -- a refusal's number and its condition
@@ -19,7 +18,7 @@ verdict [] = accept
 verdict ((n if true) ∷ ts) = refuse n
 verdict ((n if false) ∷ ts) = verdict ts
 
--- what the code's verdict says
-abbrev pub verdict_of : Code.Verdict → Verdict
-verdict_of Accepted = accept
-verdict_of (Refused r) = refuse (number_of r)
+-- what a judge of the code says: nothing, or why it refuses
+abbrev pub verdict_of : Result (Unit {0}) Refusal → Verdict
+verdict_of (Ok u) = accept
+verdict_of (Err r) = refuse (number_of r)

@@ -5,56 +5,34 @@
 ghost use Rattle.std.specs.Prelude.{◌≡◌};
 ghost use Rattle.refusals.specs.Numbers.{number_of};
 
-#[derive(Clone, Copy)]
+#[derive(Clone, Copy, PartialEq, Eq)]
 pub enum Refusal {
-    NotWellFormed,
-    NoOutline,
-    OutlineThere,
+    NotWellFormed = 1,
+    NoOutline = 2,
+    OutlineThere = 3,
     // A list of odd length, or fewer than 3 or more than 2,048 vertices; of a path, only the odd length.
-    NoRing,
-    BeyondGrid,
-    BadNumber,
-    SameDistrict,
-    BadIndex,
-    TooFew,
-    NoMatch,
-    NumbersInUse,
-    NoRoom,
-    BrokenRecord,
-    CountFull,
-    NotFinite,
-    Missing,
+    NoRing = 4,
+    BeyondGrid = 5,
+    BadNumber = 6,
+    SameDistrict = 7,
+    BadIndex = 8,
+    TooFew = 9,
+    NoMatch = 10,
+    NumbersInUse = 11,
+    NoRoom = 12,
+    BrokenRecord = 13,
+    CountFull = 14,
+    NotFinite = 18,
+    Missing = 19,
     // A lent list that is too short for the result.
-    ListTooShort,
+    ListTooShort = 28,
 }
 
-// What a judge says before anything is done.
-#[derive(Clone, Copy)]
-pub enum Verdict {
-    Accepted,
-    Refused(Refusal),
-}
-
-pub fn number(r: Refusal) -> usize
-    ensures { result ≡ number_of r }
-{
-    match r {
-        Refusal::NotWellFormed => 1,
-        Refusal::NoOutline => 2,
-        Refusal::OutlineThere => 3,
-        Refusal::NoRing => 4,
-        Refusal::BeyondGrid => 5,
-        Refusal::BadNumber => 6,
-        Refusal::SameDistrict => 7,
-        Refusal::BadIndex => 8,
-        Refusal::TooFew => 9,
-        Refusal::NoMatch => 10,
-        Refusal::NumbersInUse => 11,
-        Refusal::NoRoom => 12,
-        Refusal::BrokenRecord => 13,
-        Refusal::CountFull => 14,
-        Refusal::NotFinite => 18,
-        Refusal::Missing => 19,
-        Refusal::ListTooShort => 28,
+impl Refusal {
+    // The rules' number.
+    pub fn number(self) -> usize
+        ensures { result ≡ number_of self }
+    {
+        self as usize
     }
 }

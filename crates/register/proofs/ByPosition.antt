@@ -4,27 +4,24 @@ use mathlib.Core.Path.{◌≡◌, refl, sym, ap, ◌∙◌}
 use mathlib.Core.Bool.{Bool, true, false, not, ◌||◌}
 use mathlib.Core.List.{List, [], ◌∷◌}
 use lib.IntN.{ℤ}
+use Rattle.std.specs.Prelude.{Ok, Err}
 use Rattle.ring.specs.declared.Point.{Point}
 use Rattle.ring.specs.Grid.{point, beyond}
 use Rattle.ring.specs.Choices.{pick}
 use Rattle.districts.specs.Register.{Register, in_use}
 use Rattle.districts.specs.Lent.{beginning}
-use Rattle.districts.specs.Answers.{Answer, report, refused}
+use Rattle.districts.specs.Answers.{report, refused}
 use Rattle.refusals.specs.declared.Refusal.{Refusal}
 use Rattle.refusals.specs.declared.Refusal.TheVariants as Why
 use Rattle.refusals.specs.Numbers.{number_of}
 use Rattle.refusals.specs.Verdicts.{Test, ◌if◌, accept, refuse, verdict}
-use Rattle.refusals.proofs.Verdicts.{stops-early}
+use Rattle.refusals.proofs.Verdicts.{stops-early, passes-first}
 use Rattle.register.specs.Sorting.{belongs_to, point_tests, given, assigned}
 use Rattle.fixes.specs.declared.Fix as Receivers
-use Rattle.fixes.specs.declared.Placed.{Placed}
-use Rattle.fixes.specs.declared.Placed.TheVariants.{OnGrid, BeyondGrid, NotFinite}
 use Rattle.fixes.specs.Millimetres.{placed}
 use Rattle.register.specs.declared.Position.{Position}
 use Rattle.register.specs.declared.Position.TheVariants.{Grid, Fix, Missing}
-use Rattle.register.specs.declared.placing.Spot.{Spot}
-use Rattle.register.specs.declared.placing.Spot.TheVariants.{At, Nowhere}
-use Rattle.register.specs.Placing.{is_missing, not_finite, east_of, north_of, position_tests, place_tests, assigned_at, refused_as}
+use Rattle.register.specs.Placing.{is_missing, not_finite, east_of, north_of, position_tests, place_tests, assigned_at}
 use Rattle.register.specs.Spots.{Spots}
 use Rattle.register.proofs.Given.{answer-given}
 
@@ -34,12 +31,6 @@ unfolding verdict
 behind true c ts us e = refl
 behind false true ts us e = refl
 behind false false ts us e = e
-
-behind-refused : (b c : Bool) (ts : List Test) (n : ℕ) (a : Answer) → verdict ts ≡ refuse n → given (verdict ((1 if b) ∷ (2 if c) ∷ [])) (refused n) ≡ given (verdict ((1 if b) ∷ (2 if c) ∷ ts)) a
-unfolding verdict
-behind-refused true c ts n a e = refl
-behind-refused false true ts n a e = refl
-behind-refused false false ts n a e = sym (ap (λ v. given v a) e)
 
 -- ---- where a position is
 
@@ -63,54 +54,45 @@ only-5 : (c : Bool) → verdict (own false false c) ≡ verdict ((5 if c) ∷ []
 unfolding verdict
 only-5 c = refl
 
-there : (p : Position) → is_missing p ≡ false → not_finite p ≡ false → Spots (At (point (east_of p) (north_of p))) p
+there : (p : Position) → is_missing p ≡ false → not_finite p ≡ false → Spots (Ok (point (east_of p) (north_of p))) p
 there p here fine = let far = beyond (east_of p) || beyond (north_of p) in (refl, (λ i. verdict (own (here i) (fine i) far)) ∙ only-5 far)
 
-pub grid-spot : (x y : ℤ) → Spots (At (point x y)) (Grid x y)
+pub grid-spot : (x y : ℤ) → Spots (Ok (point x y)) (Grid x y)
 grid-spot x y = there (Grid x y) refl refl
 
-pub missing-spot : Spots (Nowhere Why.Missing) Missing
+pub missing-spot : Spots (Err Why.Missing) Missing
 missing-spot = first-19 false _
 
--- by where a fix was placed
-abbrev pub spot_by : Placed → Spot
-spot_by (OnGrid x y) = At (point x y)
-spot_by BeyondGrid = Nowhere Why.BeyondGrid
-spot_by NotFinite = Nowhere Why.NotFinite
-
 fix-by : (p : Position) (b c : Bool) → is_missing p ≡ false → not_finite p ≡ b → (beyond (east_of p) || beyond (north_of p)) ≡ c
-    → Spots (spot_by (pick b NotFinite (pick c BeyondGrid (OnGrid (east_of p) (north_of p))))) p
+    → Spots (pick b (Err Why.NotFinite) (pick c (Err Why.BeyondGrid) (Ok (point (east_of p) (north_of p))))) p
 fix-by p true c here e f = (λ i. verdict (own (here i) (e i) (beyond (east_of p) || beyond (north_of p)))) ∙ first-18 _
 fix-by p false true here e f = (λ i. verdict (own (here i) (e i) (f i))) ∙ first-5
 fix-by p false false here e f = there p here e
 
-pub fix-spot : (f : Receivers.Fix) → Spots (spot_by (placed f.easting f.northing)) (Fix f)
+pub fix-spot : (f : Receivers.Fix) → Spots (placed f.easting f.northing) (Fix f)
 fix-spot f = fix-by (Fix f) _ _ refl refl refl
 
 -- ---- the answer
 
 module _ (good : Bool) (g : Register) (n : ℕ) (p : Position) where
-  pub spot-at : (r : Point) → Spots (At r) p → assigned good g n r.x r.y ≡ assigned_at good g n p
+  spot-at : (r : Point) → Spots (Ok r) p → assigned good g n r.x r.y ≡ assigned_at good g n p
   unfolding assigned assigned_at
   spot-at r e =
       (λ i. given (behind (not good) (not (in_use g.outline)) (point_tests r.x r.y) (position_tests p) (sym e.1) i) (report n (belongs_to g (point r.x r.y))))
       ∙ ap (λ (q : Point). given (verdict (place_tests good g p)) (report n (belongs_to g (point q.x q.y)))) e.0
 
-  pub spot-nowhere : (why : Refusal) → Spots (Nowhere why) p → refused_as good g (number_of why) ≡ assigned_at good g n p
+  -- where refusals 1 and 2 are passed
+  pub spot-taken : (r : Point) → Spots (Ok r) p → verdict (beginning good g) ≡ accept → given (verdict (point_tests r.x r.y)) (report n (belongs_to g r)) ≡ assigned_at good g n p
+  spot-taken r e begun = answer-given good g n r.x r.y begun ∙ spot-at r e
+
+  pub spot-refused : (why : Refusal) → Spots (Err why) p → verdict (beginning good g) ≡ accept → refused (number_of why) ≡ assigned_at good g n p
   unfolding assigned_at
-  spot-nowhere why e = behind-refused _ _ (position_tests p) (number_of why) _ e
-
-  -- the same where refusals 1 and 2 are passed
-  pub spot-at-once : (r : Point) → Spots (At r) p → verdict (beginning good g) ≡ accept → given (verdict (point_tests r.x r.y)) (report n (belongs_to g r)) ≡ assigned_at good g n p
-  spot-at-once r e begun = answer-given good g n r.x r.y begun ∙ spot-at r e
-
-  pub spot-nowhere-once : (why : Refusal) → Spots (Nowhere why) p → verdict (beginning good g) ≡ accept → refused (number_of why) ≡ assigned_at good g n p
-  spot-nowhere-once why e begun = sym (ap (λ v. given v (refused (number_of why))) begun) ∙ spot-nowhere why e
+  spot-refused why e begun = sym (ap (λ v. given v (report n (belongs_to g (point (east_of p) (north_of p))))) (passes-first (beginning good g) (position_tests p) begun ∙ e))
 
   -- and where one of them is met
-  pub begun_first : (m : ℕ) → verdict (beginning good g) ≡ refuse m → refused m ≡ assigned_at good g n p
+  pub begun-first : (m : ℕ) → verdict (beginning good g) ≡ refuse m → refused m ≡ assigned_at good g n p
   unfolding assigned_at
-  begun_first m e = sym (ap (λ v. given v (report n (belongs_to g (point (east_of p) (north_of p))))) (stops-early m (beginning good g) (position_tests p) e))
+  begun-first m e = sym (ap (λ v. given v (report n (belongs_to g (point (east_of p) (north_of p))))) (stops-early m (beginning good g) (position_tests p) e))
 
   -- a position that is there and finite is answered as its millimetres are
   pub as-on-grid : is_missing p ≡ false → not_finite p ≡ false → assigned_at good g n p ≡ assigned good g n (east_of p) (north_of p)

@@ -8,4 +8,5 @@ pub mod Vectors
 pub mod Positions
 pub mod EitherWay
 pub mod Runs
+pub mod Turns
 pub mod Listed

@@ -1,7 +1,7 @@
 pub mod Sorting
 pub mod Standing
+pub mod Seen
 pub mod Placing
 pub mod Spots
 pub mod Founding
 pub mod Calls
-pub mod Listing

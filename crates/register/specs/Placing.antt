@@ -3,7 +3,7 @@ use Rattle.std.specs.Prelude.{ℕ, Bool, true, false, not, ◌&&◌, List, ◌�
 use Rattle.ring.specs.Grid.{point}
 use Rattle.districts.specs.Register.{Register}
 use Rattle.districts.specs.Lent.{beginning}
-use Rattle.districts.specs.Answers.{Answer, report, refused}
+use Rattle.districts.specs.Answers.{Answer, report}
 use Rattle.refusals.specs.Verdicts.{Test, ◌if◌, verdict}
 use Rattle.register.specs.Sorting.{point_tests, belongs_to, given}
 use Rattle.fixes.specs.Nearest.{finite}
@@ -44,9 +44,3 @@ place_tests well_formed g p = beginning well_formed g ++ position_tests p
 -- the answer to report r with position p
 unfoldable pub assigned_at : Bool → Register → ℕ → Position → Answer
 assigned_at well_formed g r p = given (verdict (place_tests well_formed g p)) (report r (belongs_to g (point (east_of p) (north_of p))))
-
--- ---- inside the crate. No public promise cites it.
-
--- refusals 1 and 2, then the given one
-abbrev pub refused_as : Bool → Register → ℕ → Answer
-refused_as well_formed g n = given (verdict (beginning well_formed g)) (refused n)

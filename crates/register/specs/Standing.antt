@@ -1,4 +1,4 @@
--- What the functions that sort a report promise one another; no public promise cites it. Assumes nothing.
+-- How the code says how a point lies to a district; no public promise cites it. Assumes nothing.
 use Rattle.std.specs.Prelude.{◌≡◌, true, false}
 use Rattle.ring.specs.Locate.{Place, on, touch_of}
 use Rattle.register.specs.declared.standing.Stance.{Stance}
@@ -10,4 +10,4 @@ abbrev pub Stands : Stance → Place → Type 0
 Stands (On t) p = p ≡ on (touch_of t)
 Stands Inside p = (rests p ≡ false) × (winds p ≡ true)
 Stands Outside p = (rests p ≡ false) × (winds p ≡ false)
-Stands (Missed row) p = (rests p ≡ false) × (winds p ≡ false)
+Stands (Missed line) p = (rests p ≡ false) × (winds p ≡ false)

@@ -1,41 +1,32 @@
 // Founding: the outline is stored, and district 0 is made with the same ring.
-ghost use Rattle.std.specs.Prelude.{◌≡◌, ◌+◌, ◌≤◌, length};
+ghost use Rattle.std.specs.Prelude.{◌≡◌, ◌/◌, ◌%◌, ◌≤◌, length};
 ghost use Rattle.ring.specs.Grid.{vertices};
 ghost use Rattle.refusals.specs.Verdicts.{verdict, verdict_of};
 ghost use Rattle.register.specs.Founding.{found_tests};
 ghost use Rattle.register.specs.Calls.{placed, Wrote, FoundBy};
-ghost use Rattle.districts.specs.Lent.{lent, formed, means};
+ghost use Rattle.districts.specs.Lent.{formed, means};
+ghost use Rattle.districts.specs.Held.{lists_of, founding_of, SameFounding};
 
-use crate::Founded;
-use districts::{FIRST_PLACES, SIZES};
-use refusals::{Refusal, Verdict};
+use districts::{FIRST_PLACES, Lists, ListsToFound, SIZES};
+use refusals::Refusal;
+use room::Run;
 
 // Whether founding with this ring is refused, and why, where it is known whether the register is well-formed.
-fn judged(
-    good: bool,
-    ox: &[i32],
-    oy: &[i32],
-    sx: &[i32],
-    sy: &[i32],
-    runs: &[u32],
-    ring: &[i32],
-) -> Verdict
-    requires { good ≡ formed (lent ox.now oy.now sx.now sy.now runs.now) }
-    ensures { verdict_of result ≡ verdict (found_tests (formed (lent ox.now oy.now sx.now sy.now runs.now)) (means (lent ox.now oy.now sx.now sy.now runs.now)) ring.now) }
+fn judged(good: bool, lists: &Lists, ring: &[i32]) -> Result<(), Refusal>
+    requires { good ≡ formed (lists_of lists.now) }
+    ensures { verdict_of result ≡ verdict (found_tests (formed (lists_of lists.now)) (means (lists_of lists.now)) ring.now) }
 {
-    if !good {
-        return Verdict::Refused(Refusal::NotWellFormed);
-    }
-    if 0 < districts::outline_size(runs) {
-        return Verdict::Refused(Refusal::OutlineThere);
+    let store = lists.known(good)?;
+    if 0 < store.runs.outline_size() {
+        return Err(Refusal::OutlineThere);
     }
     if ring::no_ring(ring.len()) {
-        return Verdict::Refused(Refusal::NoRing);
+        return Err(Refusal::NoRing);
     }
     if ring::some_beyond(ring) {
-        return Verdict::Refused(Refusal::BeyondGrid);
+        return Err(Refusal::BeyondGrid);
     }
-    Verdict::Accepted
+    Ok(())
 }
 
 // The outline and district 0 have n vertices each, district 0 from the first place of the store on.
@@ -49,57 +40,41 @@ fn place(runs: &mut [u32], n: usize)
     runs[SIZES] = n as u32;
 }
 
-fn write(
-    ox: &mut [i32],
-    oy: &mut [i32],
-    sx: &mut [i32],
-    sy: &mut [i32],
-    runs: &mut [u32],
-    ring: &[i32],
-    n: usize,
-)
-    requires ox_len { (length ox.old ≡ 2048) × (length oy.old ≡ 2048) × (length sx.old ≡ 2048) × (length sy.old ≡ 2048) × (length runs.old ≡ 129) }
-    requires ring_len { (length ring.now ≡ n + n) × (n ≤ 2048) }
-    ensures { Wrote (vertices ring.now) (lent ox.old oy.old sx.old sy.old runs.old) (lent ox.new oy.new sx.new sy.new runs.new) }
+fn write(lists: &mut ListsToFound, ring: &[i32])
+    requires columns_len { (length lists.old.ox.now ≡ 2048) × (length lists.old.oy.now ≡ 2048) × (length lists.old.sx.now ≡ 2048) × (length lists.old.sy.now ≡ 2048) }
+    requires runs_len { length lists.old.runs.now ≡ 129 }
+    requires ring_len { (length ring.now % 2 ≡ 0) × (length ring.now / 2 ≤ 2048) }
+    ensures lent { SameFounding lists.old lists.new }
+    ensures columns_len { (length lists.new.ox.now ≡ 2048) × (length lists.new.oy.now ≡ 2048) × (length lists.new.sx.now ≡ 2048) × (length lists.new.sy.now ≡ 2048) }
+    ensures wrote { Wrote (vertices ring.now) (founding_of lists.old) (founding_of lists.new) }
 {
-    room::write_run(ox, oy, ring, n, 0, n);
-    room::write_run(sx, sy, ring, n, 0, n);
-    place(runs, n);
+    let n = ring.len() / 2;
+    let whole = Run {
+        ring,
+        from: 0,
+        many: n,
+    };
+    room::write(lists.ox, lists.oy, 0, &whole);
+    room::write(lists.sx, lists.sy, 0, &whole);
+    place(lists.runs, n);
 }
 
 // Gives an empty register its outline, and makes district 0 of the same ring; where it is known whether the register is well-formed.
-pub fn found_known(
-    good: bool,
-    ox: &mut [i32],
-    oy: &mut [i32],
-    sx: &mut [i32],
-    sy: &mut [i32],
-    runs: &mut [u32],
-    ring: &[i32],
-) -> Founded
-    requires { good ≡ formed (lent ox.old oy.old sx.old sy.old runs.old) }
-    ensures { FoundBy result ring.now (lent ox.old oy.old sx.old sy.old runs.old) (lent ox.new oy.new sx.new sy.new runs.new) }
+pub fn found_known(good: bool, lists: &mut ListsToFound, ring: &[i32]) -> Result<(), Refusal>
+    requires { good ≡ formed (founding_of lists.old) }
+    ensures lent { SameFounding lists.old lists.new }
+    ensures found { FoundBy result ring.now (founding_of lists.old) (founding_of lists.new) }
 {
-    match judged(good, ox, oy, sx, sy, runs, ring) {
-        Verdict::Accepted => {
-            write(ox, oy, sx, sy, runs, ring, ring.len() / 2);
-            Founded::Done
-        }
-        Verdict::Refused(r) => Founded::Refused(r),
-    }
+    judged(good, &lists.read(), ring)?;
+    write(lists, ring);
+    Ok(())
 }
 
 // Gives an empty register its outline, and makes district 0 of the same ring.
-pub fn found(
-    ox: &mut [i32],
-    oy: &mut [i32],
-    sx: &mut [i32],
-    sy: &mut [i32],
-    runs: &mut [u32],
-    ring: &[i32],
-) -> Founded
-    ensures { FoundBy result ring.now (lent ox.old oy.old sx.old sy.old runs.old) (lent ox.new oy.new sx.new sy.new runs.new) }
+pub fn found(lists: &mut ListsToFound, ring: &[i32]) -> Result<(), Refusal>
+    ensures lent { SameFounding lists.old lists.new }
+    ensures found { FoundBy result ring.now (founding_of lists.old) (founding_of lists.new) }
 {
-    let good = districts::well_formed(ox, oy, sx, sy, runs);
-    found_known(good, ox, oy, sx, sy, runs, ring)
+    let good = districts::well_formed(&lists.read());
+    found_known(good, lists, ring)
 }

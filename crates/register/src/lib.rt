@@ -1,11 +1,12 @@
-// The register's founding and the assigning of reports, over five lent lists. No public call has a `requires`: lists of any length and content
-// are taken, and what is not well-formed is refused. A refused call changes nothing.
+// The register's founding and the assigning of reports, over five lent lists. No public call has a `requires`, but for those whose caller knows the register: lists of
+// any length and content are taken, and what is not well-formed is refused. A refused call changes nothing.
 
 #![tactic(auto)]
 
 mod founding;
 mod listing;
 mod placing;
+mod seen;
 mod sorting;
 mod standing;
 
@@ -13,14 +14,7 @@ use fixes::Fix;
 pub use founding::{found, found_known};
 pub use listing::{assign_listed, place_listed};
 pub use placing::assign_at;
-use refusals::Refusal;
 pub use sorting::assign;
-
-#[derive(Clone, Copy)]
-pub enum Founded {
-    Done,
-    Refused(Refusal),
-}
 
 // A report's position.
 #[derive(Clone, Copy)]

@@ -1,113 +1,95 @@
-// Assigning a report: every district in turn, the parts of the store's columns that are its run handed to locating.
-ghost use Rattle.std.specs.Prelude.{◌≡◌, ◌||◌, ◌<◌};
-ghost use Rattle.ring.specs.Grid.{beyond};
+// Assigning a report: every district in turn, its ring handed to locating.
+ghost use Rattle.std.specs.Prelude.{◌≡◌, ◌<◌};
+ghost use Rattle.ring.specs.Held.{points_of};
 ghost use Rattle.ring.specs.Locate.{located_on};
 ghost use Rattle.ring.specs.Walk.{OnGrid};
-ghost use Rattle.ring.specs.Columns.{points};
-ghost use Rattle.columns.specs.Walk.{Ready};
-ghost use Rattle.districts.specs.Lists.{district};
-ghost use Rattle.refusals.specs.Verdicts.{verdict};
+ghost use Rattle.refusals.specs.Verdicts.{verdict, verdict_of};
 ghost use Rattle.districts.specs.Answers.{belongs, report, answer_of};
+ghost use Rattle.districts.specs.Lent.{formed, means};
+ghost use Rattle.districts.specs.Held.{lists_of, district_of};
 ghost use Rattle.register.specs.Sorting.{lies_to, sorted_by, point_tests, given, assigned};
 ghost use Rattle.register.specs.Standing.{Stands};
-ghost use Rattle.districts.specs.Lent.{lent, formed, means, GoodRuns};
 
-use crate::standing::{Seen, Stance, lying};
-use columns::Miss;
-use districts::{Assigned, Class, NUMBERS, Report};
-use refusals::{Refusal, Verdict};
-use ring::Point;
+use crate::seen::Seen;
+use crate::standing::{Stance, lying};
+use columns::Line;
+use districts::{Class, Lists, NUMBERS, Report, Store};
+use refusals::Refusal;
+use ring::{Columns, Point};
 
-// How r lies to a ring. It is walked along only if neither of r's lines misses it; the row is asked first, or the column.
-fn lies_to_ring(xs: &[i32], ys: &[i32], r: Point, row_first: bool) -> Stance
-    requires { Ready xs.now ys.now r }
-    ensures { Stands result (located_on (points xs.now ys.now) r) }
+// How r lies to a ring. It is walked along only if neither of r's lines misses it; one of the two is asked first.
+fn lies_to_ring(ring: &Columns, r: Point, first: Line) -> Stance
+    requires { OnGrid r }
+    ensures { Stands result (located_on (points_of ring.now) r) }
 {
-    match columns::missing(xs, ys, r, row_first) {
-        Miss::By(row) => Stance::Missed(row),
-        Miss::Neither => lying(columns::locate_on(xs, ys, r)),
+    match columns::missing(ring, r, first) {
+        Some(line) => Stance::Missed(line),
+        None => lying(columns::locate_on(ring, r)),
     }
 }
 
 // How r lies to district d; to an unused number it lies outside.
-fn lies(sx: &[i32], sy: &[i32], runs: &[u32], d: usize, r: Point, row_first: bool) -> Stance
-    requires good_runs { GoodRuns sx.now sy.now runs.now }
+fn lies(store: &Store, d: usize, r: Point, first: Line) -> Stance
     requires d_bound { d < 64 }
     requires on_grid { OnGrid r }
-    ensures { Stands result (lies_to r (district (points sx.now sy.now) runs.now d)) }
+    ensures { Stands result (lies_to r (district_of store.now d)) }
 {
-    let n = districts::size(runs, d);
-    if n == 0 {
-        return Stance::Outside;
+    match store.ring(d) {
+        Some(ring) => lies_to_ring(&ring, r, first),
+        None => Stance::Outside,
     }
-    let from = districts::first_place(runs, d);
-    let to = from + n;
-    lies_to_ring(&sx[from..to], &sy[from..to], r, row_first)
 }
 
 // Every district in turn, until all vertices were those of one: the numbers left are unused. Of two lines the one is asked first that missed the last ring that
 // was missed: rings that lie side by side are missed by the same.
-fn sort(sx: &[i32], sy: &[i32], runs: &[u32], r: Point) -> Class
-    requires good_runs { GoodRuns sx.now sy.now runs.now }
-    requires on_grid { OnGrid r }
-    ensures { belongs result ≡ sorted_by (λ d. lies_to r (district (points sx.now sy.now) runs.now d)) }
+fn sort(store: &Store, r: Point) -> Class
+    requires { OnGrid r }
+    ensures { belongs result ≡ sorted_by (λ d. lies_to r (district_of store.now d)) }
 {
-    let mut seen = Seen {
-        lowest: NUMBERS,
-        many: 0,
-    };
-    let mut row_first = true;
-    let all = districts::total(runs);
+    let mut seen = Seen::none();
+    let mut first = Line::Row;
+    let all = store.runs.total();
     let mut past = 0;
-    let mut d = 0;
-    while past < all {
-        match lies(sx, sy, runs, d, r, row_first) {
+    for d in 0..NUMBERS {
+        if past == all {
+            break;
+        }
+        match lies(store, d, r, first) {
             Stance::On(touch) => return Class::Border(d, touch),
             Stance::Inside => seen = seen.with(d),
             Stance::Outside => {}
-            Stance::Missed(row) => row_first = row,
+            Stance::Missed(line) => first = line,
         }
-        past += districts::size(runs, d);
-        d += 1;
+        past += store.runs.size(d);
     }
     seen.class()
 }
 
-pub fn off_grid(r: Point) -> bool
-    ensures { result ≡ (beyond r.x || beyond r.y) }
+// Refusal 5.
+pub fn on_grid(r: Point) -> Result<(), Refusal>
+    ensures { verdict_of result ≡ verdict (point_tests r.x r.y) }
 {
-    ring::beyond(r.x) | ring::beyond(r.y)
+    if ring::beyond(r.x) | ring::beyond(r.y) {
+        return Err(Refusal::BeyondGrid);
+    }
+    Ok(())
 }
 
 // Where report `number` at r belongs, in a register that is well-formed and has an outline.
-fn place(sx: &[i32], sy: &[i32], runs: &[u32], number: u32, r: Point) -> Assigned
-    requires { GoodRuns sx.now sy.now runs.now }
-    ensures { answer_of result ≡ given (verdict (point_tests r.x r.y)) (report number (sorted_by (λ d. lies_to r (district (points sx.now sy.now) runs.now d)))) }
+pub fn place(store: &Store, number: u32, r: Point) -> Result<Report, Refusal>
+    ensures { answer_of result ≡ given (verdict (point_tests r.x r.y)) (report number (sorted_by (λ d. lies_to r (district_of store.now d)))) }
 {
-    if off_grid(r) {
-        return Assigned::Refused(Refusal::BeyondGrid);
-    }
-    Assigned::Sorted(Report {
+    on_grid(r)?;
+    Ok(Report {
         number,
-        class: sort(sx, sy, runs, r),
+        class: sort(store, r),
     })
 }
 
-// Where report `number` at (x, y) belongs.
-pub fn assign(
-    ox: &[i32],
-    oy: &[i32],
-    sx: &[i32],
-    sy: &[i32],
-    runs: &[u32],
-    number: u32,
-    x: i32,
-    y: i32,
-) -> Assigned
-    ensures { answer_of result ≡ assigned (formed (lent ox.now oy.now sx.now sy.now runs.now)) (means (lent ox.now oy.now sx.now sy.now runs.now)) number x y }
+// Where report `number` at r belongs.
+pub fn assign(lists: &Lists, number: u32, r: Point) -> Result<Report, Refusal>
+    ensures { answer_of result ≡ assigned (formed (lists_of lists.now)) (means (lists_of lists.now)) number r.x r.y }
 {
-    match districts::usable(ox, oy, sx, sy, runs) {
-        Verdict::Accepted => place(sx, sy, runs, number, Point { x, y }),
-        Verdict::Refused(r) => Assigned::Refused(r),
-    }
+    let store = lists.usable()?;
+    place(&store, number, r)
 }

@@ -1,7 +1,8 @@
 pub mod Pick
+pub mod Same
 pub mod Moved
 pub mod Vertices
-pub mod Columns
+pub mod Points
 pub mod OnGrid
 pub mod Quadrants
 pub mod Search
@@ -14,6 +15,7 @@ pub mod Fours
 pub mod Walks
 pub mod Settled
 pub mod Missed
+pub mod Sides
 pub mod Segments
 pub mod Touches
 pub mod Known

@@ -1,7 +1,7 @@
 -- What the test of the coordinates tells: every vertex of a list that passes is a point of the grid; and the way from one such point to another. Assumes nothing.
 use Prim.Native.Nat.{ℕ, zero, suc, ◌%◌, ◌≤◌}
 use native.Mathlib.Omega.{arith}
-use mathlib.Core.Path.{◌≡◌, refl, ap, ◌∙◌}
+use mathlib.Core.Path.{◌≡◌, refl, ◌∙◌}
 use mathlib.Core.Bool.{false}
 use mathlib.Core.List.{List, [], ◌∷◌}
 use lib.IntN.{ℤ, pos, negsuc, nat_abs, ◌-ℤ◌, ◌*ℤ◌}
@@ -11,8 +11,8 @@ use mir.Val.{SFits, to_z, of_z}
 use mir.Facts.{to_z-of_z}
 use borrow.Author.Tests.{ltb-false}
 use Rattle.exact.specs.declared.Arrow.{Arrow}
-use Rattle.exact.specs.Sign.{Short, cross}
-use Rattle.exact.proofs.Bounds.{nat_abs-sub, within-fits}
+use Rattle.exact.specs.Sign.{cross}
+use Rattle.exact.proofs.Bounds.{within-fits}
 use Rattle.ring.specs.declared.Point.{Point}
 use Rattle.ring.specs.Grid.{point, beyond, some_beyond, vertices}
 use Rattle.ring.specs.Rings.{at}
@@ -51,25 +51,9 @@ vertex-on-grid xs e i =
 pub headed : (x y : ℤ) (a : Arrow) → SFits w32 x → SFits w32 y → (a.x ≡ to_z w32 (of_z w32 x)) × (a.y ≡ to_z w32 (of_z w32 y)) → head_of a ≡ point x y
 headed x y a f g e = (λ i. point ((e.0 ∙ to_z-of_z f) i) ((e.1 ∙ to_z-of_z g) i))
 
-pub head-short : (a : Arrow) → OnGrid (head_of a) → Short a
-head-short a r = record { across = omega (arith, r.across); up = omega (arith, r.up) }
-
 -- a coordinate as a number of 32 bits holds it
 pub held : (z : ℤ) → nat_abs z ≤ 1_000_000_000 → to_z w32 (of_z w32 z) ≡ z
 held z h = to_z-of_z (within-fits w32 z 1_000_000_000 h tt)
-
-pub way-between : (R P : Point) (a : Arrow) → OnGrid R → OnGrid P → (a.x ≡ to_z w32 (of_z w32 P.x) -ℤ R.x) × (a.y ≡ to_z w32 (of_z w32 P.y) -ℤ R.y) → Way R P a
-way-between R P a r p e =
-    let x : a.x ≡ P.x -ℤ R.x = e.0 ∙ ap (λ (z : ℤ). z -ℤ R.x) (held P.x p.across) in
-    let y : a.y ≡ P.y -ℤ R.y = e.1 ∙ ap (λ (z : ℤ). z -ℤ R.y) (held P.y p.up) in
-    record {
-      x = x;
-      y = y;
-      short = record {
-        across = rw x (omega (arith, nat_abs-sub P.x R.x, r.across, p.across));
-        up = rw y (omega (arith, nat_abs-sub P.y R.y, r.up, p.up));
-      };
-    }
 
 pub way-determinant : (R P Q : Point) (a b : Arrow) → Way R P a → Way R Q b → cross a b ≡ determinant R P Q
 unfolding determinant

@@ -6,7 +6,6 @@ use mathlib.Core.Path.{◌≡◌, refl, sym, ap, ◌∙◌, subst}
 use mathlib.Core.Bool.{Bool, true, false, not, ◌&&◌, ◌||◌, beq}
 use lib.Dec.{T, eqb, eqb→eq, eqb-suc-zero}
 use lib.IntN.{ℤ, pos, negsuc, neg_ℤ, ◌-ℤ◌, ◌*ℤ◌, +ℤ_idr}
-use lib.Signed.{le_z}
 use Rattle.exact.specs.Sign.{Sign, minus, nought, plus, sign, eq_z}
 use Rattle.exact.proofs.Parts.{parts-sub, parts-neg, by_parts}
 use Rattle.exact.proofs.Signs.{flip, times, is_plus, is_minus, is_nought, may_differ, every, every-at, provided, provided-yes, sign-mul, sign-sub, sign-turn, lt-sign, gt-sign, le-sign, ge-sign, eq-sign}
@@ -157,24 +156,6 @@ lines_by x y = count (east_by x y) + (count (north_by x y) + (count (west_by x y
 pub one_line : (R P : Point) → same R P ≡ false → count (north_east R P) + (count (north_west R P) + (count (south_west R P) + count (south_east R P))) ≡ 1
 one_line R P e = (λ i. count (east-signs R P i) + (count (north-signs R P i) + (count (west-signs R P i) + count (south-signs R P i))))
     ∙ eqb→eq (seen_at lines_by R P) 1 (provided-yes (not (seen_at same_by R P)) (λ _. eqb (seen_at lines_by R P) 1) (at-point (λ x y. provided (not (same_by x y)) (λ _. eqb (lines_by x y) 1)) tt R P) (apart R P e))
-
--- ---- the same number, asked by order
-
-neither : (s : Sign) → not (is_minus s) && not (is_plus s) ≡ is_nought s
-neither minus = refl
-neither nought = refl
-neither plus = refl
-
--- two numbers are the same exactly if each is at most the other
-pub both_most : (a x : ℤ) → le_z a x && le_z x a ≡ eq_z a x
-both_most a x = (λ i. le-sign a x i && ge-sign a x i) ∙ neither (sign (x -ℤ a)) ∙ sym (eq-sign a x)
-
-pub zero-order : (z : ℤ) → le_z z (pos 0) && le_z (pos 0) z ≡ eq_z z (pos 0)
-zero-order z = both_most z (pos 0)
-
-pub same-order : (R P : Point) → (le_z R.x P.x && le_z P.x R.x) && (le_z R.y P.y && le_z P.y R.y) ≡ same R P
-unfolding same
-same-order R P i = both_most R.x P.x i && both_most R.y P.y i
 
 -- ---- the reverse of an edge turns the other way
 

@@ -4,11 +4,13 @@ use native.Mathlib.Omega.{arith}
 use native.Mathlib.Nat.{zero-add}
 use native.Mathlib.Decide.{ℕ_discrete}
 use mathlib.Core.Path.{◌≡◌, refl, sym, ap, ◌∙◌, subst}
-use mathlib.Core.Bool.{Bool, true, false, ◌&&◌, true≢false}
-use lib.Dec.{leb}
-use borrow.Author.Tests.{leb-true, leb-false}
+use mathlib.Core.Bool.{Bool, true, false, true≢false}
+use borrow.Author.Tests.{lt-ltb, le-ltb, ltb-true}
+use lib.Dec.{ltb}
+use Rattle.std.specs.Prelude.{Some, None}
 use Rattle.ring.specs.Choices.{pick}
 use Rattle.ring.specs.Locate.{lowest, highest}
+use Rattle.ring.specs.Walk.{first_met}
 use Rattle.ring.proofs.Pick.{pick_true, pick-false}
 
 -- ---- what an answer says
@@ -64,23 +66,13 @@ lowest-over p n h j g = lowest-all p n 0 (omega (arith, lowest-most p n 0)) j (o
 abbrev pub Unmet : (ℕ → Bool) → ℕ → Type 0
 Unmet p i = (j : ℕ) → j < i → p j ≡ false
 
-pub unmet-none : (p : ℕ → Bool) → Unmet p 0
-unmet-none p j h = absurd (let f : ⊥ = omega arith in f)
-
 pub unmet-more : (p : ℕ → Bool) (i : ℕ) → p i ≡ false → Unmet p i → Unmet p (i + 1)
 unmet-more p i e u j h = elim (ℕ_discrete i j) [ yes s ↦ subst (λ (m : ℕ). p m ≡ false) s e | no s ↦ u j (omega arith) ]
-
-pub unmet-hit : (p : ℕ → Bool) (n i : ℕ) → i < n → p i ≡ true → Unmet p i → i ≡ lowest p n 0
-unmet-hit p n i h e u = sym (lowest-first p n i u h e)
 
 pub unmet-all : (p : ℕ → Bool) (n i : ℕ) → n ≤ i → Unmet p i → n ≡ lowest p n 0
 unmet-all p n i h u = sym (lowest-none p n 0 (λ j g l. u j (omega arith)) ∙ zero-add n)
 
 -- ---- the highest index that passes, looked for from the end
-
-pub highest-none : (p : ℕ → Bool) → highest p 0 ≡ 0
-unfolding highest
-highest-none p = refl
 
 pub highest-hit : (p : ℕ → Bool) (k : ℕ) → p k ≡ true → highest p (suc k) ≡ k
 unfolding highest
@@ -104,45 +96,29 @@ highest-is p (suc k) i h e = step (p k) refl (λ f. highest-is p k i (lower i h 
     step true f rest = (omega arith, f, λ j g l. omega arith)
     step false f rest = let l = rest f in (omega (arith, l.0), l.1, λ j g t. l.2 j (lower j g t f) t)
 
--- ---- a search that goes on to the end and notes the lowest hit
+-- ---- what a search answers
 
--- e is the lowest of the indices below i that passes, or n where none of them does
-pub record Noted (p : ℕ → Bool) (n i e : ℕ) : Type 0 where
-  pub most : e ≤ n
-  pub before : (j : ℕ) → j < i → j < e → p j ≡ false
-  pub passed : e < n → e < i
-  pub holds : e < n → p e ≡ true
+pub first_hit : (p : ℕ → Bool) (n i : ℕ) → i < n → p i ≡ true → Unmet p i → Some i ≡ first_met p n
+first_hit p n i h e u =
+    let first : lowest p n 0 ≡ i = lowest-first p n i u h e in
+    ap Some (sym first) ∙ sym (pick_true (lt-ltb (lowest p n 0) n (omega (arith, first))) _ _)
 
-pub noted-none : (p : ℕ → Bool) (n : ℕ) → Noted p n 0 n
-noted-none p n = record { most = omega arith; before = λ j l. absurd (omega arith); passed = λ l. absurd (omega arith); holds = λ l. absurd (omega arith) }
-
--- what is noted stays, unless i is lower and passes
-pub noted-kept : (p : ℕ → Bool) (n i e : ℕ) → (i < e → p i ≡ false) → Noted p n i e → Noted p n (suc i) e
-noted-kept p n i e f d = record {
-  most = d.most;
-  before = λ j h k. elim (ℕ_discrete i j) [ yes s ↦ subst (λ (m : ℕ). p m ≡ false) s (f (omega arith)) | no s ↦ d.before j (omega arith) k ];
-  passed = λ h. let k : e < i = d.passed h in omega arith;
-  holds = d.holds;
-}
-
--- i is noted if it passes and none was noted before
-pub noted_more : (p : ℕ → Bool) (n i e : ℕ) → i < n → Noted p n i e → Noted p n (suc i) (pick (p i && leb n e) i e)
-noted_more p n i e h d = step (p i) refl (leb n e) refl
+pub first-passes : (p : ℕ → Bool) (n i : ℕ) → Some i ≡ first_met p n → (i < n) × (p i ≡ true)
+first-passes p n i = go (ltb (lowest p n 0) n) refl
   where
-    step : (met : Bool) → p i ≡ met → (none : Bool) → leb n e ≡ none → Noted p n (suc i) (pick (met && none) i e)
-    step true s true l =
-        let k : n ≤ e = leb-true n e l in
-        record { most = omega arith; before = λ j f g. d.before j g (omega arith); passed = λ f. omega arith; holds = λ f. s }
-    step true s false l =
-        let k : e < n = leb-false n e l in
-        let g : e < i = d.passed k in
-        noted-kept p n i e (λ f. absurd (omega arith)) d
-    step false s none l = noted-kept p n i e (λ f. s) d
+    go : (b : Bool) → ltb (lowest p n 0) n ≡ b → Some i ≡ pick b (Some (lowest p n 0)) None → (i < n) × (p i ≡ true)
+    go true t e =
+        let same : i ≡ lowest p n 0 = cc in
+        let low : lowest p n 0 < n = ltb-true (lowest p n 0) n t in
+        (omega (arith, same), ap p same ∙ (lowest-is p n 0 (lowest p n 0) refl (omega (arith, low))).0)
+    go false t e = let clash : ◌≡◌ {A = ℕ} 0 1 = cc in absurd (let f : ⊥ = omega arith in f)
 
-pub noted-all : (p : ℕ → Bool) (n e : ℕ) → Noted p n n e → lowest p n 0 ≡ e
-noted-all p n e d = lowest-unique p n 0 (lowest p n 0) e (lowest-holds p n 0) (record {
-  least = omega arith;
-  most = let k : e ≤ n = d.most in omega arith;
-  before = λ j g h. let k : e ≤ n = d.most in d.before j (omega arith) h;
-  passes = λ h. d.holds (omega arith);
-})
+pub first-none : (p : ℕ → Bool) (n : ℕ) → Unmet p n → None ≡ first_met p n
+first-none p n u = sym (pick-false (le-ltb (lowest p n 0) n (omega (arith, unmet-all p n n (omega arith) u))) _ _)
+
+-- the highest is one that passes and has none above it
+pub highest-last : (p : ℕ → Bool) (n i : ℕ) → i < n → p i ≡ true → ((j : ℕ) → i < j → j < n → p j ≡ false) → i ≡ highest p n
+highest-last p n i h e above =
+    let top = highest-is p n i h e in
+    let at_least : i ≤ highest p n = top.2 i h e in
+    elim (ℕ_discrete i (highest p n)) [ yes same ↦ same | no other ↦ absurd (true≢false (sym top.1 ∙ above (highest p n) (omega (arith, at_least, other)) top.0)) ]

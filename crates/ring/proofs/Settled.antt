@@ -10,15 +10,17 @@ use lib.ListN.{length, take}
 use lib.Seq.{take_all}
 use lib.IntN.{ℤ}
 use borrow.Author.Tests.{le-ltb, ltb-false}
+use Rattle.std.specs.Prelude.{Option, Some, None}
 use Rattle.ring.specs.declared.Point.{Point}
 use Rattle.ring.specs.declared.counting.Count.{Count}
-use Rattle.ring.specs.declared.places.Met.{Met}
+use Rattle.ring.specs.declared.Touch as Code
+use Rattle.ring.specs.declared.Touch.TheVariants.{Vertex, Edge}
 use Rattle.ring.specs.Choices.{pick}
 use Rattle.ring.specs.Rings.{at}
 use Rattle.ring.specs.Turns.{winding, oddly}
 use Rattle.ring.specs.Locate.{Place, vertex, edge, on, off, lowest, highest, at_vertex, on_edge, touching, located_on}
-use Rattle.ring.specs.Walk.{Counted, span, met_at}
-use Rattle.ring.proofs.Pick.{pick_true, pick-false}
+use Rattle.ring.specs.Walk.{Counted, met_at, or_else}
+use Rattle.ring.proofs.Pick.{pick-false}
 use Rattle.ring.proofs.Search.{lowest-over, Unmet, unmet-all}
 use Rattle.ring.proofs.Crossings.{end-off}
 
@@ -44,13 +46,10 @@ module _ (P : List Point) (R : Point) (c : Count) (counted : Counted P R c) wher
   pub clear-off : 0 < c.clear → off c.turns (oddly c.turns) ≡ located_on P R
   clear-off h = let free : Unmet (on_edge P R) (length P) = λ j l. ap (on_edge P R) (sym (zero-add j)) ∙ counted.clear h j l in off-counted free ∙ sym (off-ring P R free)
 
-  -- what is answered where the point was met as m, or was not, on a ring of n vertices
-  abbrev settled_by : ℕ → Met → Place
-  settled_by n m = pick (ltb m.at.lowest n) (on (pick m.vertex vertex edge m.at.lowest m.at.highest)) (off c.turns (oddly c.turns))
-
-  all-met : settled_by (length P) (met_at P R (length P)) ≡ located_on P R
+  -- what is answered where the point was met, or was not
+  pub settled : (m : Option Code.Touch) → m ≡ met_at P R → or_else m (off c.turns (oddly c.turns)) ≡ located_on P R
   unfolding located_on
-  all-met = first (ltb v n) refl
+  settled m same = ap (λ m. or_else m (off c.turns (oddly c.turns))) same ∙ first (ltb v n)
     where
       n : ℕ
       n = length P
@@ -64,13 +63,11 @@ module _ (P : List Point) (R : Point) (c : Count) (counted : Counted P R c) wher
       otherwise : Place
       otherwise = off (winding P R) (oddly (winding P R))
 
-      second : (b : Bool) → ltb e n ≡ b → pick b (on (edge e (highest (on_edge P R) n))) (off c.turns (oddly c.turns)) ≡ pick b (on (edge e (highest (on_edge P R) n))) otherwise
+      second : (b : Bool) → ltb e n ≡ b → or_else (pick b (Some (Edge e (highest (on_edge P R) n))) None) (off c.turns (oddly c.turns)) ≡ pick b (on (edge e (highest (on_edge P R) n))) otherwise
       second true s = refl
       second false s = off-counted (lowest-over (on_edge P R) n (ltb-false e n s))
 
-      first : (b : Bool) → ltb v n ≡ b → settled_by n (pick b (record { vertex = true; at = span (at_vertex P R) n }) (record { vertex = false; at = span (on_edge P R) n })) ≡ pick b (on (vertex v (highest (at_vertex P R) n))) (touching edge n e (highest (on_edge P R) n) otherwise)
-      first true s = pick_true s _ _
-      first false s = second (ltb e n) refl
-
-  pub settled : (n : ℕ) (m : Met) → length P ≡ n → m ≡ met_at P R n → settled_by n m ≡ located_on P R
-  settled n m size e = (λ i. settled_by n (e i)) ∙ ap (λ k. settled_by k (met_at P R k)) (sym size) ∙ all-met
+      first : (b : Bool) → or_else (pick b (Some (Vertex v (highest (at_vertex P R) n))) (pick (ltb e n) (Some (Edge e (highest (on_edge P R) n))) None)) (off c.turns (oddly c.turns))
+          ≡ pick b (on (vertex v (highest (at_vertex P R) n))) (touching edge n e (highest (on_edge P R) n) otherwise)
+      first true = refl
+      first false = second (ltb e n) refl

@@ -22,15 +22,11 @@ use Rattle.ring.specs.Turns.{determinant}
 use Rattle.ring.specs.Crossings.{below, crossing, steps}
 use Rattle.ring.specs.Segment.{on_segment}
 use Rattle.ring.specs.Locate.{on_edge}
-use Rattle.ring.specs.Walk.{Ready, Clean, Sight, Gone, Free, Counts, Aside, north, south, east, west, none, Counted}
+use Rattle.ring.specs.Walk.{Sight, Gone, Free, Counts, Aside, north, south, east, west, none, Counted}
 use Rattle.ring.proofs.Pick.{pick_true, pick-false}
 use Rattle.ring.proofs.OnGrid.{way-determinant}
-use Rattle.ring.proofs.Vertices.{length-vertices}
 use Rattle.ring.proofs.Sums.{total-split, total_falls}
 use Rattle.ring.proofs.Crossings.{below-sign, plus-sign, minus-sign, steps-crossing, marks-few, counted-few, determinant-off, above-row, below_row, west-of, east-of, crossings-winding}
-
-pub ready-clean : (xs : List ℤ) (n : ℕ) (R : Point) → Ready xs n R → Clean xs R
-ready-clean xs n R r = record { most = omega (arith, length-vertices xs n r.even, r.most); grid = r.grid; point = r.point }
 
 -- ---- a vertex as seen from R
 
@@ -93,6 +89,10 @@ module _ (P : List Point) (R : Point) where
         (front.0, free-both i j k front.1 back.1);
     few = omega (arith, p.few, q.few);
   }
+
+  -- the first edges, and then some more
+  pub counts-more : (i k m : ℕ) (c v w : Count) → i + k ≡ m → Counts P R 0 i c v → Counts P R i k v w → Counts P R 0 m c w
+  counts-more i k m c v w e p q = subst (λ n. Counts P R 0 n c w) e (counts-on 0 i k c v w p (subst (λ n. Counts P R n k v w) (sym (zero-add i)) q))
 
   -- ---- one edge
 
@@ -197,27 +197,30 @@ module _ (P : List Point) (R : Point) where
   -- ---- all the way round
 
   -- the closing edge, and then the others
-  pub counts_all : (n : ℕ) (c v : Count) → length P ≡ n → 1 ≤ n → n ≤ 2048 → Counts P R (n - 1) 1 none c → Counts P R 0 (n - 1) c v → Counted P R v
+  pub counts_all : (c v : Count) → 1 ≤ length P → length P ≤ 2048 → Counts P R (length P - 1) 1 none c → Counts P R 0 (length P - 1) c v → Counted P R v
   unfolding ring_sum
-  counts_all n c v size some most p q = record {
-    turns = λ free. turned free ∙ crossings-winding P R (omega (arith, size)) (λ i h. ap (on_edge P R) (sym (zero-add i)) ∙ free i h);
+  counts_all c v some most p q = record {
+    turns = λ free. turned free ∙ crossings-winding P R some (λ i h. ap (on_edge P R) (sym (zero-add i)) ∙ free i h);
     clear = λ h. let rest = q.clear h in whole (p.clear rest.0).1 rest.1;
     few = omega (arith, p.few, q.few);
   }
     where
+      n : ℕ
+      n = length P
+
       whole : Free P R (n - 1) 1 → Free P R 0 (n - 1) → Free P R 0 (length P)
       whole last rest j h = elim (dec_lt j (n - 1)) [
         | yes low ↦ rest j low
-        | no high ↦ ap (on_edge P R) (let e : 0 + j ≡ n - 1 + 0 = omega (arith, size, h, high) in e) ∙ last 0 (omega arith)
+        | no high ↦ ap (on_edge P R) (let e : 0 + j ≡ n - 1 + 0 = omega (arith, some, h, high) in e) ∙ last 0 (omega arith)
       ]
 
       turned : Free P R 0 (length P) → v.turns ≡ ring_sum (crossing R) P
       turned free =
           let front = total (crossing R) (at P) (n - 1) in
           let last = total (crossing R) (λ j. at P (n - 1 + j)) 1 in
-          q.turns (λ j h. free j (omega (arith, size)))
-          ∙ (λ x. p.turns (λ j h. ap (on_edge P R) (let e : n - 1 + j ≡ 0 + (n - 1 + j) = omega arith in e) ∙ free (n - 1 + j) (omega (arith, size))) x +ℤ total (crossing R) (λ j. at P (zero-add j x)) (n - 1))
+          q.turns (λ j h. free j (omega (arith, some)))
+          ∙ (λ x. p.turns (λ j h. ap (on_edge P R) (let e : n - 1 + j ≡ 0 + (n - 1 + j) = omega arith in e) ∙ free (n - 1 + j) (omega (arith, some))) x +ℤ total (crossing R) (λ j. at P (zero-add j x)) (n - 1))
           ∙ ap (λ (z : ℤ). z +ℤ front) (+ℤ_idl last)
           ∙ +ℤ_comm last front
           ∙ sym (total-split (crossing R) (at P) (n - 1) 1)
-          ∙ ap (total (crossing R) (at P)) (let e : n - 1 + 1 ≡ length P = omega (arith, size) in e)
+          ∙ ap (total (crossing R) (at P)) (let e : n - 1 + 1 ≡ length P = omega (arith, some) in e)

@@ -8,3 +8,4 @@ pub mod Segment
 pub mod Locate
 pub mod Walk
 pub mod Known
+pub mod Held

@@ -1,11 +1,12 @@
 -- The rules' answer to where a point lies, with the numbers of its refusals, and how the code's enums say it. Assumes nothing.
-use Rattle.std.specs.Prelude.{ℕ, zero, suc, ◌/◌, Bool, true, false, ◌||◌, List, ltb, length, ℤ}
+use Rattle.std.specs.Prelude.{ℕ, zero, suc, ◌/◌, Bool, true, false, ◌||◌, List, ltb, length, ℤ, Result, Ok, Err}
 use Rattle.ring.specs.declared.Point.{Point}
 use Rattle.ring.specs.declared.Parity.{Parity}
 use Rattle.ring.specs.declared.Parity.TheVariants.{Even, Odd}
+use Rattle.refusals.specs.declared.Refusal.{Refusal}
 use Rattle.refusals.specs.Numbers.{number_of}
-use Rattle.ring.specs.declared.Located.{Located}
-use Rattle.ring.specs.declared.Located.TheVariants.{On, Off, Refused}
+use Rattle.ring.specs.declared.Place as CodePlace
+use Rattle.ring.specs.declared.Place.TheVariants.{On, Off}
 use Rattle.ring.specs.declared.Touch as CodeTouch
 use Rattle.ring.specs.declared.Touch.TheVariants.{Vertex, Edge}
 use Rattle.ring.specs.Grid.{point, beyond, some_beyond, vertices, no_ring}
@@ -69,7 +70,11 @@ abbrev pub touch_of : CodeTouch.Touch → Touch
 touch_of (Vertex i j) = vertex i j
 touch_of (Edge i j) = edge i j
 
-abbrev pub place_of : Located → Place
-place_of (On t) = on (touch_of t)
-place_of (Off w o) = off w.0 (is_odd o)
-place_of (Refused r) = refused (number_of r)
+-- a place that is no refusal, and an answer, which may be one
+abbrev pub lying_of : CodePlace.Place → Place
+lying_of (On t) = on (touch_of t)
+lying_of (Off w o) = off w.0 (is_odd o)
+
+abbrev pub place_of : Result CodePlace.Place Refusal → Place
+place_of (Ok p) = lying_of p
+place_of (Err r) = refused (number_of r)

@@ -1,5 +1,5 @@
 -- What the functions that go round a ring ask and promise one another; no public promise cites it. Assumes nothing.
-use Rattle.std.specs.Prelude.{ℕ, ◌+◌, ◌≤◌, ◌<◌, ◌≡◌, Bool, true, false, ◌&&◌, ◌||◌, List, ltb, length, get_or, ℤ, pos, nat_abs, ◌+ℤ◌, ◌-ℤ◌}
+use Rattle.std.specs.Prelude.{ℕ, ◌+◌, ◌≤◌, ◌<◌, ◌≡◌, Bool, true, false, ◌&&◌, ◌||◌, List, ltb, length, get_or, Option, Some, None, ℤ, pos, nat_abs, ◌+ℤ◌, ◌-ℤ◌}
 use Rattle.std.specs.Int.Signed.{lt_z}
 use Rattle.exact.specs.declared.Arrow.{Arrow}
 use Rattle.exact.specs.Sign.{eq_z, Short, cross}
@@ -7,14 +7,15 @@ use Rattle.ring.specs.declared.Point.{Point}
 use Rattle.ring.specs.declared.counting.End.{End}
 use Rattle.ring.specs.declared.counting.Count.{Count}
 use Rattle.ring.specs.declared.places.Span.{Span}
-use Rattle.ring.specs.declared.places.Met.{Met}
-use Rattle.ring.specs.Grid.{point, beyond, some_beyond, vertices}
+use Rattle.ring.specs.declared.Touch as Code
+use Rattle.ring.specs.declared.Touch.TheVariants.{Vertex, Edge}
+use Rattle.ring.specs.Grid.{point, beyond}
 use Rattle.ring.specs.Choices.{pick, count}
 use Rattle.ring.specs.Rings.{at, total}
 use Rattle.ring.specs.Turns.{winding}
 use Rattle.ring.specs.Crossings.{crossing, steps}
 use Rattle.ring.specs.Segment.{between}
-use Rattle.ring.specs.Locate.{lowest, highest, at_vertex, on_edge}
+use Rattle.ring.specs.Locate.{Place, on, touch_of, lowest, highest, at_vertex, on_edge}
 
 -- the point that a way from (0, 0) leads to
 abbrev pub head_of : Arrow → Point
@@ -24,20 +25,6 @@ head_of a = point a.x a.y
 pub record OnGrid (p : Point) : Type 0 where
   pub across : nat_abs p.x ≤ 1_000_000_000
   pub up : nat_abs p.y ≤ 1_000_000_000
-
--- a list that is a ring of n vertices on the grid, and a point of the grid
-pub record Ready (xs : List ℤ) (n : ℕ) (R : Point) : Type 0 where
-  pub even : length xs ≡ n + n
-  pub least : 3 ≤ n
-  pub most : n ≤ 2048
-  pub grid : some_beyond xs ≡ false
-  pub point : OnGrid R
-
--- the same where the number of vertices does not matter
-pub record Clean (xs : List ℤ) (R : Point) : Type 0 where
-  pub most : length (vertices xs) ≤ 2048
-  pub grid : some_beyond xs ≡ false
-  pub point : OnGrid R
 
 -- one of the four numbers from place i on is beyond the grid
 abbrev pub four_beyond : List ℤ → ℕ → Bool
@@ -99,10 +86,27 @@ pub record Counted (P : List Point) (R : Point) (c : Count) : Type 0 where
   pub clear : 0 < c.clear → Free P R 0 (length P)
   pub few : nat_abs c.turns ≤ most_turns
 
--- the indices below n that pass a test
-abbrev pub span : (ℕ → Bool) → ℕ → Span
-span p n = record { lowest = lowest p n 0; highest = highest p n }
+-- the lowest of the indices below n that pass a test, if some do
+abbrev pub first_met : (ℕ → Bool) → ℕ → Option ℕ
+first_met p n = pick (ltb (lowest p n 0) n) (Some (lowest p n 0)) None
+
+-- the lowest and the highest of them
+abbrev pub spanned : (ℕ → Bool) → ℕ → Option Span
+spanned p n = pick (ltb (lowest p n 0) n) (Some (record { lowest = lowest p n 0; highest = highest p n })) None
+
+-- some indices, and one above them, if it passes a test
+abbrev pub with_edge : Bool → ℕ → Option Span → Option Span
+with_edge false e met = met
+with_edge true e None = Some (record { lowest = e; highest = e })
+with_edge true e (Some s) = Some (record { lowest = s.lowest; highest = e })
 
 -- the vertices that equal R, or else the edges that hold it
-abbrev pub met_at : List Point → Point → ℕ → Met
-met_at P R n = pick (ltb (lowest (at_vertex P R) n 0) n) (record { vertex = true; at = span (at_vertex P R) n }) (record { vertex = false; at = span (on_edge P R) n })
+abbrev pub met_at : List Point → Point → Option Code.Touch
+met_at P R =
+    pick (ltb (lowest (at_vertex P R) (length P) 0) (length P)) (Some (Vertex (lowest (at_vertex P R) (length P) 0) (highest (at_vertex P R) (length P))))
+    (pick (ltb (lowest (on_edge P R) (length P) 0) (length P)) (Some (Edge (lowest (on_edge P R) (length P) 0) (highest (on_edge P R) (length P)))) None)
+
+-- on the ring where it was met, or else the other place
+abbrev pub or_else : Option Code.Touch → Place → Place
+or_else (Some t) other = on (touch_of t)
+or_else None other = other

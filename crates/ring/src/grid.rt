@@ -1,10 +1,9 @@
-// The grid and the vertices of a ring that is held as a list x0, y0, x1, y1, ..
+// The grid, and the vertices of a list x0, y0, x1, y1, ..
 ghost use Rattle.std.specs.Prelude.{◌≡◌, ◌+◌, ◌<◌, ◌≤◌, negsuc, length};
 ghost use Rattle.std.specs.Int.Signed.{lt_z};
 ghost use Rattle.ring.specs.Grid.{beyond as is_beyond, some_beyond, vertices};
 ghost use Rattle.ring.specs.Rings.{at};
-ghost use Rattle.ring.specs.Segment.{same as same_point};
-ghost use Rattle.ring.specs.Walk.{OnGrid, head_of, Clean, four_beyond, Way};
+ghost use Rattle.ring.specs.Walk.{OnGrid, head_of, four_beyond};
 
 use crate::Point;
 
@@ -36,10 +35,8 @@ pub fn some_beyond(list: &[i32]) -> bool
     ensures { result ≡ some_beyond list.now }
 {
     let mut found = false;
-    let mut i = 0;
-    while i < list.len() {
-        found = found | beyond(list[i]);
-        i += 1;
+    for x in list {
+        found = found | beyond(*x);
     }
     found
 }
@@ -52,7 +49,8 @@ fn four_beyond(list: &[i32], i: usize) -> bool
     (beyond(list[i]) | beyond(list[i + 1])) | (beyond(list[i + 2]) | beyond(list[i + 3]))
 }
 
-// Whether some number of a short list is beyond the grid. It goes four by four and stops where one is; the last four may have been looked at in part.
+// Whether some number of a short list is beyond the grid. It goes four by four and stops where one is; the last four may have been looked at in part. The
+// compiler makes one comparison of four, if the loop around them is this one.
 pub fn some_beyond_short(list: &[i32]) -> bool
     requires { 4 ≤ length list.now }
     ensures { result ≡ some_beyond list.now }
@@ -68,20 +66,14 @@ pub fn some_beyond_short(list: &[i32]) -> bool
     four_beyond(list, last)
 }
 
-// Whether two points are the same.
-pub fn same(p: Point, q: Point) -> bool
-    ensures { result ≡ same_point p q }
-{
-    ((p.x <= q.x) & (q.x <= p.x)) & ((p.y <= q.y) & (q.y <= p.y))
-}
-
-pub fn vertex(ring: &[i32], i: usize) -> Point
-    requires { i + i + 1 < length ring.now }
-    ensures { result ≡ at (vertices ring.now) i }
+// Vertex i of a list, which need not be a ring.
+pub fn vertex(list: &[i32], i: usize) -> Point
+    requires { i + i + 1 < length list.now }
+    ensures { result ≡ at (vertices list.now) i }
 {
     Point {
-        x: ring[2 * i],
-        y: ring[2 * i + 1],
+        x: list[2 * i],
+        y: list[2 * i + 1],
     }
 }
 
@@ -89,10 +81,10 @@ pub fn vertex(ring: &[i32], i: usize) -> Point
 pub fn wide(r: Point) -> exact::Arrow
     ensures { head_of result ≡ r }
 {
-    exact::way_to(r.x, r.y)
+    exact::Arrow::to(r.x, r.y)
 }
 
-// The point of the grid that a way from (0, 0) leads to.
+// The point of the grid that a way from (0, 0) leads to. `locate` has the way at hand and not the point: kept for `find`, it would be written to memory in every call.
 pub fn narrow(a: exact::Arrow) -> Point
     requires { OnGrid (head_of a) }
     ensures { result ≡ head_of a }
@@ -101,14 +93,4 @@ pub fn narrow(a: exact::Arrow) -> Point
         x: a.x as i32,
         y: a.y as i32,
     }
-}
-
-// The way to vertex i from the point that r leads to.
-pub fn way(ring: &[i32], r: exact::Arrow, i: usize) -> exact::Arrow
-    requires clean { Clean ring.now (head_of r) }
-    requires i_in_bounds { i < length (vertices ring.now) }
-    ensures { Way (head_of r) (at (vertices ring.now) i) result }
-{
-    let p = vertex(ring, i);
-    exact::between(r, p.x, p.y)
 }

@@ -7,16 +7,18 @@
 mod counting;
 mod grid;
 mod places;
+mod rings;
 mod walk;
 
 ghost use Rattle.std.specs.Prelude.{◌≡◌, ◌/◌};
 ghost use Rattle.ring.specs.Grid.{no_ring};
 ghost use Rattle.ring.specs.Locate.{located, place_of};
 
-pub use counting::{Count, End, block_size, marked};
-pub use grid::{beyond, narrow, same, some_beyond, vertex, wide};
-pub use places::{Met, Span};
+pub use counting::{Count, blocks, each, seen};
+pub use grid::{beyond, some_beyond, vertex, wide};
+pub use places::find;
 use refusals::Refusal;
+pub use rings::{Columns, Pairs, Ring, beside};
 pub use walk::{found, off};
 
 pub const FEWEST_VERTICES: usize = 3;
@@ -29,7 +31,7 @@ const LEAST_SHORT: usize = 2 * FEWEST_VERTICES;
 const MOST_SHORT: usize = 2 * counting::BLOCK + 1;
 
 // A point of the grid, in whole millimetres.
-#[derive(Clone, Copy)]
+#[derive(Clone, Copy, PartialEq, Eq)]
 pub struct Point {
     pub x: i32,
     pub y: i32,
@@ -51,11 +53,11 @@ pub enum Touch {
     Edge(usize, usize),
 }
 
+// Where a point lies against a ring.
 #[derive(Clone, Copy)]
-pub enum Located {
+pub enum Place {
     On(Touch),
     Off(Winding, Parity),
-    Refused(Refusal),
 }
 
 // Whether a list of m numbers makes no ring.
@@ -69,8 +71,9 @@ pub fn no_ring(m: usize) -> bool
 // Where the point (x, y) lies against the ring x0, y0, x1, y1, .. Vertices come before edges, the lowest and the highest index are told, and the
 // closing edge has the last index. A list that makes no ring is refused before a coordinate beyond the grid.
 // A short ring is dealt with here, edge by edge: in a function of its own its answer would be looked into twice, and the way to the point, if it were kept
-// for `find`, would be written to memory in every call.
-pub fn locate(ring: &[i32], x: i32, y: i32) -> Located
+// for `find`, would be written to memory in every call. `find` is handed a part of the list that is all of it: the list as it came would be copied at the
+// start of every call, found or not.
+pub fn locate(ring: &[i32], x: i32, y: i32) -> Result<Place, Refusal>
     ensures { place_of result ≡ located ring.now x y }
 {
     let m = ring.len();
@@ -81,30 +84,30 @@ pub fn locate(ring: &[i32], x: i32, y: i32) -> Located
         return locate_long(&ring[0..m], Point { x, y });
     }
     if m % 2 == 1 {
-        return Located::Refused(Refusal::NoRing);
+        return Err(Refusal::NoRing);
     }
     if grid::some_beyond_short(ring) | (beyond(x) | beyond(y)) {
-        return Located::Refused(Refusal::BeyondGrid);
+        return Err(Refusal::BeyondGrid);
     }
-    let n = m / 2;
-    let c = counting::each(ring, n, exact::way_to(x, y));
+    let c = counting::each_of_list(&Pairs { list: ring }, exact::Arrow::to(x, y));
     if c.clear == 0 {
-        return walk::found(places::find(&ring[0..m], n, exact::way_to(x, y)), n, c);
+        let again = Pairs { list: &ring[0..m] };
+        return Ok(found(find(&again, exact::Arrow::to(x, y)), c));
     }
-    walk::off(c)
+    Ok(off(c))
 }
 
 // The same where the list is not that of a short ring. `locate` calls it twice, since a function that is called once is set into its caller, and
 // then a short ring pays for the registers of a long one.
-fn locate_long(ring: &[i32], r: Point) -> Located
+fn locate_long(ring: &[i32], r: Point) -> Result<Place, Refusal>
     ensures { place_of result ≡ located ring.now r.x r.y }
 {
     let m = ring.len();
     if no_ring(m) {
-        return Located::Refused(Refusal::NoRing);
+        return Err(Refusal::NoRing);
     }
     if some_beyond(ring) | (beyond(r.x) | beyond(r.y)) {
-        return Located::Refused(Refusal::BeyondGrid);
+        return Err(Refusal::BeyondGrid);
     }
-    walk::locate_on(ring, m / 2, r)
+    Ok(walk::locate_on(&Pairs { list: ring }, r))
 }

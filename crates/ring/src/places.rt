@@ -1,30 +1,23 @@
 // Where a point r is met on a ring: at vertices, or else on edges; of these the lowest index and the highest.
-ghost use Rattle.std.specs.Prelude.{◌≡◌, ◌&&◌, leb, pos};
+ghost use Rattle.std.specs.Prelude.{◌≡◌, true, ◌&&◌, ◌<◌, Option, pos, length};
 ghost use Rattle.exact.specs.Sign.{Short};
-ghost use Rattle.ring.specs.Choices.{pick};
-ghost use Rattle.ring.specs.Grid.{vertices};
 ghost use Rattle.ring.specs.Segment.{between as is_between};
-ghost use Rattle.ring.specs.Locate.{lowest, highest, at_vertex, on_edge};
-ghost use Rattle.ring.specs.Walk.{head_of, Ready, span, met_at, in_line};
+ghost use Rattle.ring.specs.Locate.{highest, at_vertex, on_edge};
+ghost use Rattle.ring.specs.Walk.{OnGrid, head_of, first_met, spanned, with_edge, met_at, in_line};
 
-use crate::{Point, grid};
+use crate::counting::way;
+use crate::rings::Ring;
+use crate::{Point, Touch, grid};
 
-// The lowest and the highest of some indices; where there are none, the number of vertices and 0.
+// The lowest and the highest of some indices.
 #[derive(Clone, Copy)]
 pub struct Span {
     pub lowest: usize,
     pub highest: usize,
 }
 
-// The vertices that are r, or else the edges that hold it.
-#[derive(Clone, Copy)]
-pub struct Met {
-    pub vertex: bool,
-    pub at: Span,
-}
-
 // Whether two ways from r end on both sides of it, or at it, in x and in y.
-fn beside(from: exact::Arrow, to: exact::Arrow) -> bool
+fn straddle(from: exact::Arrow, to: exact::Arrow) -> bool
     ensures { result ≡ (is_between (pos 0) from.x to.x && is_between (pos 0) from.y to.y) }
 {
     (((from.x <= 0) & (0 <= to.x)) | ((to.x <= 0) & (0 <= from.x)))
@@ -34,102 +27,74 @@ fn beside(from: exact::Arrow, to: exact::Arrow) -> bool
 // Whether r is on the closed segment between the ends of two ways from it.
 fn holds(from: exact::Arrow, to: exact::Arrow) -> bool
     requires short { Short from }
-    requires short_2 { Short to }
+    requires to_short { Short to }
     ensures { result ≡ in_line from to }
 {
-    let d = exact::determinant(from, to);
-    if (d.0 <= 0) & (0 <= d.0) {
-        return beside(from, to);
-    }
-    false
+    (from.determinant(to).0 == 0) && straddle(from, to)
 }
 
-impl Span {
-    // With one more index, above those that it has, on a ring of n vertices.
-    fn with(self, i: usize, n: usize) -> Span
-        ensures { (result.lowest ≡ pick (leb n self.lowest) i self.lowest) × (result.highest ≡ i) }
-    {
-        let lowest = if n <= self.lowest { i } else { self.lowest };
-        Span { lowest, highest: i }
+// The indices of `met`, and edge e, which is above them, if it holds r; the ways lead to its ends.
+fn along(met: Option<Span>, e: usize, from: exact::Arrow, to: exact::Arrow) -> Option<Span>
+    requires { Short from × Short to }
+    ensures { result ≡ with_edge (in_line from to) e met }
+{
+    if !holds(from, to) {
+        return met;
     }
-
-    // With edge i if it holds r; the ways lead to its ends.
-    pub fn along(self, i: usize, n: usize, from: exact::Arrow, to: exact::Arrow) -> Span
-        requires { Short from × Short to }
-        ensures { (result.lowest ≡ pick (in_line from to) (pick (leb n self.lowest) i self.lowest) self.lowest) × (result.highest ≡ pick (in_line from to) i self.highest) }
-    {
-        if holds(from, to) {
-            return self.with(i, n);
-        }
-        self
-    }
+    let lowest = met.map_or(e, |s| s.lowest);
+    Some(Span { lowest, highest: e })
 }
 
 // All edges that hold r.
-fn edges(ring: &[i32], n: usize, r: exact::Arrow) -> Span
-    requires { Ready ring.now n (head_of r) }
-    ensures { result ≡ span (on_edge (vertices ring.now) (head_of r)) n }
+fn edges<R: Ring>(ring: &R, r: exact::Arrow) -> Option<Span>
+    requires { OnGrid (head_of r) }
+    ensures { result ≡ spanned (on_edge (R.points ring.now) (head_of r)) (length (R.points ring.now)) }
 {
-    let mut met = Span {
-        lowest: n,
-        highest: 0,
-    };
-    let mut from = grid::way(ring, r, 0);
-    let mut e = 0;
-    while e + 1 < n {
-        let to = grid::way(ring, r, e + 1);
-        met = met.along(e, n, from, to);
+    let last = ring.len() - 1;
+    let mut met = None;
+    let mut from = way(ring, r, 0);
+    for e in 0..last {
+        let to = way(ring, r, e + 1);
+        met = along(met, e, from, to);
         from = to;
-        e += 1;
     }
-    met.along(e, n, from, grid::way(ring, r, 0))
+    along(met, last, from, way(ring, r, 0))
 }
 
-fn lowest_vertex(ring: &[i32], n: usize, r: Point) -> usize
-    requires { Ready ring.now n r }
-    ensures { result ≡ lowest (at_vertex (vertices ring.now) r) n 0 }
+fn lowest_vertex<R: Ring>(ring: &R, r: Point) -> Option<usize>
+    ensures { result ≡ first_met (at_vertex (R.points ring.now) r) (length (R.points ring.now)) }
 {
-    let mut v = 0;
-    while v < n {
-        if grid::same(r, grid::vertex(ring, v)) {
-            return v;
+    for v in 0..ring.len() {
+        if ring.vertex(v) == r {
+            return Some(v);
         }
-        v += 1;
     }
-    n
+    None
 }
 
-fn highest_vertex(ring: &[i32], n: usize, r: Point) -> usize
-    requires { Ready ring.now n r }
-    ensures { result ≡ highest (at_vertex (vertices ring.now) r) n }
+// The highest vertex that is r, which vertex `lowest` is.
+fn highest_vertex<R: Ring>(ring: &R, r: Point, lowest: usize) -> usize
+    requires lowest_in_bounds { lowest < length (R.points ring.now) }
+    requires met { at_vertex (R.points ring.now) r lowest ≡ true }
+    ensures { result ≡ highest (at_vertex (R.points ring.now) r) (length (R.points ring.now)) }
 {
-    let mut left = n;
-    while 0 < left {
-        let v = left - 1;
-        if grid::same(r, grid::vertex(ring, v)) {
+    for v in (lowest + 1..ring.len()).rev() {
+        if ring.vertex(v) == r {
             return v;
         }
-        left = v;
     }
-    0
+    lowest
 }
 
 // Where r is met. Vertices are looked for from both ends, which is quick; edges in one walk.
-pub fn find(ring: &[i32], n: usize, r: exact::Arrow) -> Met
-    requires { Ready ring.now n (head_of r) }
-    ensures { result ≡ met_at (vertices ring.now) (head_of r) n }
+pub fn find<R: Ring>(ring: &R, r: exact::Arrow) -> Option<Touch>
+    requires { OnGrid (head_of r) }
+    ensures { result ≡ met_at (R.points ring.now) (head_of r) }
 {
     let p = grid::narrow(r);
-    let lowest = lowest_vertex(ring, n, p);
-    if lowest < n {
-        let at = Span {
-            lowest,
-            highest: highest_vertex(ring, n, p),
-        };
-        return Met { vertex: true, at };
+    if let Some(lowest) = lowest_vertex(ring, p) {
+        return Some(Touch::Vertex(lowest, highest_vertex(ring, p, lowest)));
     }
-    Met {
-        vertex: false,
-        at: edges(ring, n, r),
-    }
+    let met = edges(ring, r)?;
+    Some(Touch::Edge(met.lowest, met.highest))
 }

@@ -13,7 +13,7 @@ use borrow.Author.Tests.{leb-true, eq-eqb, ne_eqb, le-leb}
 use Rattle.ring.specs.declared.Point.{Point}
 use Rattle.ring.specs.Grid.{some_beyond}
 use Rattle.ring.specs.Columns.{points, interleaved}
-use Rattle.ring.proofs.Columns.{length-points, points-take, same-take, interleaved-beyond}
+use Rattle.ring.proofs.Points.{length-points, points-take, same-take, interleaved-beyond}
 use Rattle.ring.proofs.Pick.{neither_left, neither_right}
 use Rattle.districts.specs.Counts.{all_to}
 use Rattle.districts.specs.Lists.{outline_size, first_place, size, part}

@@ -15,6 +15,7 @@ use Rattle.districts.specs.Counts.{sum_to, list_to}
 use Rattle.districts.specs.Register.{Slot, ring}
 use Rattle.districts.specs.Lists.{outline_size, part, held, district, meaning}
 use Rattle.room.specs.Writing.{numbers_of}
+use Rattle.districts.proofs.Sums.{sum_same}
 use Rattle.districts.proofs.Meaning.{part-within, unused-when, ring-when, list_same}
 
 -- ---- parts
@@ -72,18 +73,13 @@ held_same P Q p q m n e f = ap (held P p) e ∙ elim (ℕ_discrete n 0) [
 
 -- ---- all numbers but one
 
-sums_same : (f g : ℕ → ℕ) (n : ℕ) → ((k : ℕ) → k < n → f k ≡ g k) → sum_to n f ≡ sum_to n g
-unfolding sum_to
-sums_same f g zero e = refl
-sums_same f g (suc n) e = λ i. sums_same f g n (λ k b. e k (omega arith)) i + e n (omega arith) i
-
 -- two sums whose terms differ at d only
 pub sum-but-one : (f g : ℕ → ℕ) (n d : ℕ) → d < n → ((k : ℕ) → k < n → (k ≡ d → ⊥) → f k ≡ g k) → sum_to n f + g d ≡ sum_to n g + f d
 unfolding sum_to
 sum-but-one f g zero d h e = absurd (let no_number : ⊥ = omega arith in no_number)
 sum-but-one f g (suc n) d h e = elim (ℕ_discrete d n) [
   | yes last ↦
-      let rest : sum_to n f ≡ sum_to n g = sums_same f g n (λ k b. e k (omega arith) (λ (c : k ≡ d). omega arith)) in
+      let rest : sum_to n f ≡ sum_to n g = sum_same f g n (λ k b. e k (omega arith) (λ (c : k ≡ d). omega arith)) in
       let own : f d ≡ f n = ap f last in
       let its : g d ≡ g n = ap g last in
       omega arith

@@ -1,22 +1,22 @@
 -- Points as numbers and back, the vertices of a run and of a path read backwards, and a list of points that is written one after the
 -- other to two columns. Assumes nothing.
 use Prim.Native.Nat.{ℕ, zero, suc, ◌+◌, ◌-◌, ◌*◌, ◌%◌, ◌≤◌, ◌<◌}
-use native.Mathlib.Nat.{add-zero, mod-eq_of_lt, mod-add-mod}
+use native.Mathlib.Nat.{zero-add, add-zero, mod-eq_of_lt, mod-add-mod}
 use native.Mathlib.Decide.{ℕ_discrete}
-use native.Mathlib.Numerals.{add-one}
 use native.Mathlib.Omega.{arith}
-use mathlib.Core.Path.{◌≡◌, refl, sym, ap, subst, transport, ◌∙◌}
-use mathlib.Core.List.{List, [], ◌∷◌, ◌++◌, append_assoc, append-nil, reverse, reverse-cons}
+use mathlib.Core.Path.{◌≡◌, refl, sym, ap, ◌∙◌}
+use mathlib.Core.List.{List, [], ◌∷◌, ◌++◌, append-nil, reverse, reverse-cons}
 use lib.IntN.{ℤ, pos}
 use lib.ListN.{length, get_or, take, drop, set, length-append, length-drop, length-reverse, drop_of_length-le, get_or-append}
-use lib.Seq.{take-suc, take_all, take_at, drop_at, drop-drop, drop-cons, set_at, append_snoc, length-take-le, get_or_at}
+use lib.Seq.{take_all, take_at, drop-cons, drop-drop, get_or_at, length-take-le, paste}
+use Rattle.std.proofs.lemmas.List.Edits.{paste_more, paste_all, paste-paste}
 use borrow.Rule.Slice.PartMut.{mid_of, put_mid}
 use Rattle.ring.specs.declared.Point.{Point}
 use Rattle.ring.specs.Grid.{vertices}
 use Rattle.ring.specs.Rings.{at}
 use Rattle.ring.specs.Columns.{points}
-use Rattle.ring.proofs.Columns.{points-take, points-drop, points-append, points_set, points-long, length-points}
-use Rattle.ring.proofs.Vertices.{origin, length-vertices}
+use Rattle.ring.proofs.Points.{points_set, points-append, points-take, points-drop, points-long, length-points}
+use Rattle.ring.proofs.Vertices.{origin, at_rest, at-within, length-vertices}
 use Rattle.districts.specs.WellFormed.{total}
 use Rattle.districts.specs.Lent.{written}
 use Rattle.room.specs.Runs.{run}
@@ -92,42 +92,29 @@ reverse-at (p ∷ W) t h = ap (λ l. get_or l t origin) (reverse-cons p W) ∙ s
         ∙ before (omega arith)
         ∙ ap (λ k. get_or (p ∷ W) k origin) (sym k)
 
+-- a piece, point by point, as the code reads it
+pub run-vertex : (P : List Point) (n i c k : ℕ) → length P ≡ n → k < c → (p : Point) (r : ℕ) → p ≡ at P r → r ≡ (i + k) % n → p ≡ at (run P i c) k
+run-vertex P n i c k long h p r e f = e ∙ ap (at P) f ∙ at_rest P n (i + k) long ∙ sym (run_at P i c k h) ∙ sym (at-within (run P i c) k (omega (arith, run_length P i c)))
+
+pub back-vertex : (W : List Point) (k : ℕ) → k < length W → at W (length W - 1 - k) ≡ at (reverse W) k
+back-vertex W k h =
+    at-within W (length W - 1 - k) (omega arith)
+    ∙ sym (reverse-at W k h)
+    ∙ sym (at-within (reverse W) k (omega (arith, length-reverse W)))
+
 -- ---- one after the other
 
-pub record Writing {A : Type 0} (L to₀ to : List A) (t : ℕ) : Type 0 where
-  pub le : t ≤ length L
-  pub so_far : to ≡ written (take t L) to₀
+-- a point of a piece is written by its two numbers
+pub put-more : (L : List Point) (xs₀ ys₀ xs ys : List ℤ) (place k : ℕ) (p : Point) (us vs : List ℤ) → k < length L → place + length L ≤ length xs₀ → place + length L ≤ length ys₀ → p ≡ at L k
+    → us ≡ set xs (place + k) p.x → vs ≡ set ys (place + k) p.y → points xs ys ≡ paste (points xs₀ ys₀) place L k → points us vs ≡ paste (points xs₀ ys₀) place L (k + 1)
+put-more L xs₀ ys₀ xs ys place k p us vs h i j e f g w =
+    let room : place + length L ≤ length (points xs₀ ys₀) = points-long (place + length L) xs₀ ys₀ i j in
+    (λ t. points (f t) (g t))
+    ∙ sym (points_set xs ys (place + k) p.x p.y)
+    ∙ (λ t. set (w t) (place + k) ((e ∙ at-within L k h) t))
+    ∙ paste_more (points xs₀ ys₀) place L k origin (omega arith) h
 
-pub writing-none : {A : Type 0} (L to : List A) → Writing L to to 0
-writing-none L to = record { le = omega arith; so_far = refl }
-
--- one is written over the first of the rest
-one_more : {A : Type 0} (a : A) (xs to : List A) (n : ℕ) (x : A) → length xs ≡ n → n < length to → set (written xs to) n x ≡ written (xs ++ (x ∷ [])) to
-one_more a xs to n x e h =
-    let more : length (xs ++ (x ∷ [])) ≡ suc n = length-append xs (x ∷ []) ∙ omega arith in
-    ap (λ l. set (xs ++ l) n x) (ap (λ k. drop k to) e ∙ drop-cons to n a h)
-    ∙ set_at xs (get_or to n a) (drop (suc n) to) x n e
-    ∙ sym (append_snoc xs x (drop (length (xs ++ (x ∷ []))) to) ∙ ap (λ k. xs ++ (x ∷ drop k to)) more)
-
-pub writing_more : {A : Type 0} (a : A) (L to₀ to : List A) (t : ℕ) (x : A) → t < length L → length L ≤ length to₀ → x ≡ get_or L t a → Writing L to₀ to t → Writing L to₀ (set to t x) (t + 1)
-writing_more a L to₀ to t x h k e w = record {
-  le = omega arith;
-  so_far =
-      ap (λ l. set l t x) w.so_far
-      ∙ one_more a (take t L) to₀ t x (length-take-le t L (omega arith)) (omega arith)
-      ∙ ap (λ l. written l to₀) (ap (λ y. take t L ++ (y ∷ [])) e ∙ sym (take-suc L t a h) ∙ ap (λ m. take m L) (sym (add-one t)));
-}
-
-pub writing-all : {A : Type 0} (L to₀ to : List A) (t : ℕ) → length L ≤ t → Writing L to₀ to t → to ≡ written L to₀
-writing-all L to₀ to t h w = w.so_far ∙ ap (λ l. written l to₀) (take_all t L h)
-
--- a point is written by its two numbers
-pub put-more : (L : List Point) (xs₀ ys₀ xs ys : List ℤ) (t : ℕ) (p : Point) (us vs : List ℤ) → t < length L → length L ≤ length xs₀ → length L ≤ length ys₀ → p ≡ get_or L t origin
-    → (us ≡ set xs t p.x) × (vs ≡ set ys t p.y) → Writing L (points xs₀ ys₀) (points xs ys) t → Writing L (points xs₀ ys₀) (points us vs) (t + 1)
-put-more L xs₀ ys₀ xs ys t p us vs h j k e f w =
-    subst (λ Q. Writing L (points xs₀ ys₀) Q (t + 1)) (points_set xs ys t p.x p.y ∙ (λ i. points (sym f.0 i) (sym f.1 i))) (writing_more origin L (points xs₀ ys₀) (points xs ys) t p h (points-long (length L) xs₀ ys₀ j k) e w)
-
--- ---- in the tails of two columns
+-- ---- in the tail of a list
 
 pub tail-only : {A : Type 0} (xs us : List A) (a : ℕ) → put_mid a (length xs - a) xs us ≡ take a xs ++ us
 tail-only xs us a =
@@ -137,40 +124,34 @@ tail-only xs us a =
 pub tail_of : {A : Type 0} (xs : List A) (a : ℕ) → mid_of a (length xs - a) xs ≡ drop a xs
 tail_of xs a = take_all (length xs - a) (drop a xs) (omega (arith, length-drop a xs))
 
--- points are written to the tails
+-- what is written to the tails of both columns is written behind what stands before them
 pub tails-written : (xs ys us vs : List ℤ) (a : ℕ) (P : List Point) → a ≤ length xs → a ≤ length ys
-    → points us vs ≡ written P (points (mid_of a (length xs - a) xs) (mid_of a (length ys - a) ys))
+    → points us vs ≡ behind (points (mid_of a (length xs - a) xs) (mid_of a (length ys - a) ys)) 0 P
     → points (put_mid a (length xs - a) xs us) (put_mid a (length ys - a) ys vs) ≡ behind (points xs ys) a P
 tails-written xs ys us vs a P h k e =
+    let before = points (mid_of a (length xs - a) xs) (mid_of a (length ys - a) ys) in
+    let first : points us vs ≡ written P before = e ∙ ap (λ n. P ++ drop n before) (zero-add (length P)) in
     (λ i. points (tail-only xs us a i) (tail-only ys vs a i))
     ∙ points-append (take a xs) (take a ys) us vs (length-take-le a xs h ∙ sym (length-take-le a ys k))
-    ∙ (λ i. sym (points-take a xs ys) i ++ (e ∙ (λ j. written P (points (tail_of xs a j) (tail_of ys a j))) ∙ ap (written P) (sym (points-drop a xs ys))) i)
+    ∙ (λ i. sym (points-take a xs ys) i ++ (first ∙ (λ j. written P (points (tail_of xs a j) (tail_of ys a j))) ∙ ap (written P) (sym (points-drop a xs ys))) i)
     ∙ ap (λ l. take a (points xs ys) ++ (P ++ l)) (drop-drop (length P) a (points xs ys))
 
--- what is written behind what was written
-written_both : {A : Type 0} (to a b : List A) (n : ℕ) → length a ≡ n → behind (written a to) n b ≡ written (a ++ b) to
-written_both to a b n e =
-    let rest = drop (length a) to in
-    let front : take n (written a to) ≡ a = take_at a rest n e in
-    let after : drop (n + length b) (written a to) ≡ drop (length (a ++ b)) to =
-    sym (drop-drop (length b) n (written a to)) ∙ ap (drop (length b)) (drop_at a rest n e) ∙ drop-drop (length b) (length a) to ∙ ap (λ k. drop k to) (sym (length-append a b)) in
-    (λ i. front i ++ (b ++ after i)) ∙ sym (append_assoc a b (drop (length (a ++ b)) to))
-
--- points are written, then others behind them
-pub points-both : (to P Q : List Point) (n : ℕ) → length P ≡ n → (xs ys us vs : List ℤ) → n ≤ length xs → n ≤ length ys → points xs ys ≡ written P to
-    → points us vs ≡ written Q (points (mid_of n (length xs - n) xs) (mid_of n (length ys - n) ys))
-    → points (put_mid n (length xs - n) xs us) (put_mid n (length ys - n) ys vs) ≡ written (P ++ Q) to
-points-both to P Q n e xs ys us vs h k f g = tails-written xs ys us vs n Q h k g ∙ ap (λ l. behind l n Q) f ∙ written_both to P Q n e
-
--- points are written to the free tails of the store, and the number takes them
-pub added : (sx sy : List ℤ) (runs : List ℕ) (e : ℕ) (P : List Point) (free : ℕ) → free ≡ total runs → free ≤ length sx → free ≤ length sy
-    → (us vs : List ℤ) → points us vs ≡ written P (points (mid_of free (length sx - free) sx) (mid_of free (length sy - free) sy))
-    → (runs' : List ℕ) (m : ℕ) → m ≡ length P → runs' ≡ entered runs e free m
-    → Added (points sx sy) runs e P (points (put_mid free (length sx - free) sx us) (put_mid free (length sy - free) sy vs)) runs'
-added sx sy runs e P free f h k us vs g runs' m n o = (
-  tails-written sx sy us vs free P h k g ∙ ap (λ t. behind (points sx sy) t P) f,
-  o ∙ (λ i. entered runs e (f i) (n i)),
-)
+-- two pieces are written behind all rings, and the number takes them
+pub added : (store : List Point) (runs : List ℕ) (e : ℕ) (P Q : List Point) (free : ℕ) → free ≡ total runs → free ≤ length store → (m n : ℕ) → m ≡ length P → n ≡ length Q
+    → (store' store'' last : List Point) → store' ≡ behind store free P → store'' ≡ behind store' (free + m) Q → last ≡ store'' → (runs' : List ℕ) → runs' ≡ entered runs e free (m + n)
+    → Added store runs e (P ++ Q) last runs'
+added store runs e P Q free f h m n i j store' store'' last one two same runs' o =
+    let first : store' ≡ paste store free P m = one ∙ ap (λ k. take free store ++ (P ++ drop (free + k) store)) (sym i) ∙ sym (paste_all store free P m i) in
+    let second : store'' ≡ paste store' (free + m) Q n = two ∙ ap (λ k. take (free + m) store' ++ (Q ++ drop (free + m + k) store')) (sym j) ∙ sym (paste_all store' (free + m) Q n j) in
+    let both : m + n ≡ length (P ++ Q) = (λ t. i t + j t) ∙ sym (length-append P Q) in (
+      same
+          ∙ second
+          ∙ ap (λ s. paste s (free + m) Q n) first
+          ∙ paste-paste store free P Q m n i j h
+          ∙ paste_all store free (P ++ Q) (m + n) both
+          ∙ (λ t. take (f t) store ++ ((P ++ Q) ++ drop (f t + both t) store)),
+      o ∙ (λ t. entered runs e (f t) (both t)),
+    )
 
 -- how long a run with a path behind it is
 pub one-length : (P : List Point) (i c : ℕ) (path : List ℤ) (k : ℕ) → length path ≡ k + k → length (run P i c ++ reverse (vertices path)) ≡ c + k
@@ -193,20 +174,27 @@ number-y (x ∷ xs) [] k e h = absurd (let f : ⊥ = omega arith in f)
 number-y (x ∷ xs) (y ∷ ys) zero e h = refl
 number-y (x ∷ xs) (y ∷ ys) (suc k) e h = ap (λ m. get_or (x ∷ y ∷ numbers_of (points xs ys)) m (pos 0)) (let f : suc k + suc k + 1 ≡ suc (suc (k + k + 1)) = omega arith in f) ∙ number-y xs ys k (omega arith) (omega arith)
 
+-- one number more at the front of a list
+front-more : (L to₀ : List ℤ) (i : ℕ) → i < length to₀ → i < length L → set (paste to₀ 0 L i) i (get_or L i (pos 0)) ≡ paste to₀ 0 L (i + 1)
+front-more L to₀ i h k = ap (λ m. set (paste to₀ 0 L i) m (get_or L i (pos 0))) (sym (zero-add i)) ∙ paste_more to₀ 0 L i (pos 0) (omega arith) k
+
 -- the two numbers of a point are written
-pub pair-more : (xs ys to₀ to : List ℤ) (k : ℕ) → length xs ≡ length ys → k < length xs → length xs + length xs ≤ length to₀ → Writing (numbers_of (points xs ys)) to₀ to (k + k)
-    → Writing (numbers_of (points xs ys)) to₀ (set (set to (2 * k) (get_or xs k (pos 0))) (2 * k + 1) (get_or ys k (pos 0))) (k + 1 + (k + 1))
+pub pair-more : (xs ys to₀ to : List ℤ) (k : ℕ) → length xs ≡ length ys → k < length xs → length xs + length xs ≤ length to₀ → to ≡ paste to₀ 0 (numbers_of (points xs ys)) (k + k)
+    → set (set to (2 * k) (get_or xs k (pos 0))) (2 * k + 1) (get_or ys k (pos 0)) ≡ paste to₀ 0 (numbers_of (points xs ys)) (k + 1 + (k + 1))
 pair-more xs ys to₀ to k e h room w =
     let L = numbers_of (points xs ys) in
     let all : length L ≡ length xs + length xs = numbers-length (points xs ys) ∙ (λ i. length-points xs ys e i + length-points xs ys e i) in
-    let twice : k + k ≡ 2 * k = omega arith in
+    let twice : 2 * k ≡ k + k = omega arith in
     let next : k + k + 1 + 1 ≡ k + 1 + (k + 1) = omega arith in
-    let first = writing_more (pos 0) L to₀ to (k + k) (get_or xs k (pos 0)) (omega (arith, all)) (omega (arith, all)) (sym (number-x xs ys k e h)) w in
-    let second = writing_more (pos 0) L to₀ (set to (k + k) (get_or xs k (pos 0))) (k + k + 1) (get_or ys k (pos 0)) (omega (arith, all)) (omega (arith, all)) (sym (number-y xs ys k e h)) first in
-    transport (λ i. Writing L to₀ (set (set to (twice i) (get_or xs k (pos 0))) (twice i + 1) (get_or ys k (pos 0))) (next i)) second
+    (λ i. set (set (w i) (twice i) (sym (number-x xs ys k e h) i)) (twice i + 1) (sym (number-y xs ys k e h) i))
+    ∙ ap (λ l. set l (k + k + 1) (get_or L (k + k + 1) (pos 0))) (front-more L to₀ (k + k) (omega (arith, all)) (omega (arith, all)))
+    ∙ front-more L to₀ (k + k + 1) (omega (arith, all)) (omega (arith, all))
+    ∙ ap (paste to₀ 0 L) next
+
+-- all numbers are written
+pub front-all : (L to₀ to : List ℤ) (n : ℕ) → n ≡ length L → to ≡ paste to₀ 0 L n → to ≡ written L to₀
+front-all L to₀ to n e w = w ∙ paste_all to₀ 0 L n e ∙ ap (λ k. L ++ drop k to₀) (zero-add n ∙ e)
 
 -- a ring that was written is read back
-pub read_back : (P : List Point) (n : ℕ) → length P ≡ n → (to₀ to : List ℤ) → to ≡ written (numbers_of P) to₀ → (m : ℕ) → m ≡ n + n → vertices (take (m - 0) to) ≡ P
-read_back P n e to₀ to f m k =
-    let all : length (numbers_of P) ≡ m - 0 = numbers-length P ∙ omega arith in
-    ap (λ l. vertices (take (m - 0) l)) f ∙ ap vertices (take_at (numbers_of P) (drop (length (numbers_of P)) to₀) (m - 0) all) ∙ vertices-numbers P
+pub read_back : (P : List Point) (n : ℕ) → length P ≡ n → (to₀ to : List ℤ) → to ≡ written (numbers_of P) to₀ → mid_of 0 (2 * n - 0) to ≡ numbers_of P
+read_back P n e to₀ to f = ap (mid_of 0 (2 * n - 0)) f ∙ take_at (numbers_of P) (drop (length (numbers_of P)) to₀) (2 * n - 0) (numbers-length P ∙ omega arith)

@@ -10,10 +10,6 @@ unfoldable pub numbers_of : List Point → List ℤ
 numbers_of [] = []
 numbers_of (p ∷ P) = p.x ∷ p.y ∷ numbers_of P
 
--- what stands from `from` on, up to `end`, moved down to `to`; what comes after it is as it was
-abbrev pub closed : {A : Type 0} → List A → ℕ → ℕ → ℕ → List A
-closed xs to from end = take to xs ++ take (end - from) (drop from xs) ++ drop (to + (end - from)) xs
-
 -- the first places from `end` on are n lower; nothing else is changed
 pub record Lowered (runs : List ℕ) (end n : ℕ) (runs' : List ℕ) : Type 0 where
   pub long : length runs' ≡ length runs

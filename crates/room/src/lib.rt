@@ -1,12 +1,17 @@
 // The room of the store: the run of a number leaves and the gap is closed; a ring of two parts is written behind all rings. Also the
-// parts of a ring, read and written. Assumes of its callers what each `requires` says; the calls above establish it.
+// parts of a ring, written and read. Assumes of its callers what each `requires` says; the calls above establish it.
 
 #![tactic(auto)]
 
-mod adding;
-mod pieces;
-mod removing;
+mod piece;
+mod store_mut;
+mod storing;
+mod writing;
 
-pub use adding::{add_run_and_path, add_two_runs};
-pub use pieces::{around, copy_ring, write_run};
-pub use removing::remove;
+pub use piece::{Back, Piece, Run, around};
+pub use store_mut::StoreMut;
+pub use storing::ring_of;
+pub use writing::write;
+
+// How many numbers the largest ring has: room for the copy of a ring, x, y, x, y, ..
+pub const RING_NUMBERS: usize = 4096;

@@ -1,4 +1,5 @@
 pub mod Replying
+pub mod Sorting
 pub mod Taking
 pub mod Unique
 pub mod Unrolling

@@ -3,19 +3,19 @@ use Prim.Native.Nat.{ℕ, ◌+◌, ◌-◌, ◌≤◌}
 use native.Mathlib.Nat.{zero-add}
 use native.Mathlib.Omega.{arith}
 use mathlib.Core.Path.{◌≡◌, refl, sym, ap, subst, ◌∙◌}
-use mathlib.Core.Bool.{false}
 use mathlib.Core.List.{List, [], ◌∷◌, ◌++◌}
 use lib.IntN.{ℤ}
 use lib.ListN.{length, drop, length-drop, length-append}
 use Rattle.districts.specs.Lent.{Lists, formed, means}
+use Rattle.tally.specs.declared.Tally.{Tally}
 use Rattle.history.specs.Histories.{Call, merging}
 use Rattle.records.specs.Layout.{Front, whole, more, broken, front}
 use Rattle.records.specs.Decoding.{taken_for}
 use Rattle.wording.specs.Text.{laid}
 use Rattle.wording.specs.Lines.{room}
-use Rattle.stream.specs.declared.Stop.{Stop}
-use Rattle.stream.specs.declared.Stop.TheVariants.{Full, More, Broken}
-use Rattle.stream.specs.declared.Page.{Page}
+use Rattle.stream.specs.declared.printing.Stop.{Stop}
+use Rattle.stream.specs.declared.printing.Stop.TheVariants.{Full, More, Broken}
+use Rattle.stream.specs.declared.printing.Page.{Page}
 use Rattle.stream.specs.Streams.{Starts}
 use Rattle.stream.specs.Desks.{Desk, desk_of, next, through, line_of, lines_from}
 use Rattle.stream.specs.Printing.{Stopped, Roomy, noted, Printed}
@@ -91,36 +91,42 @@ one-start bytes places n k (c ∷ cs) (d ∷ ds) rest rest' s s' t u =
 -- ---- the page
 
 -- two outcomes for the same bytes, desk, number and lent lists
-pub record SamePage (p q : Page) (l m : Lists) (list list' : List ℤ) (to to' : List ℕ) : Type 0 where
-  pub at : p.at ≡ q.at
-  pub filled : p.filled ≡ q.filled
-  pub records : p.records ≡ q.records
-  pub tally : p.tally ≡ q.tally
+pub record SamePage (p q : Page) (l m : Lists) (t u : Tally) (list list' : List ℤ) (to to' : List ℕ) : Type 0 where
+  pub at : p.progress.at ≡ q.progress.at
+  pub filled : p.progress.filled ≡ q.progress.filled
+  pub records : p.progress.records ≡ q.progress.records
+  pub tally : t ≡ u
   pub stop : p.stop ≡ q.stop
   pub meaning : means l ≡ means m
   pub form : formed l ≡ formed m
   pub coordinates : list ≡ list'
   pub text : to ≡ to'
 
-module _ (bytes : List ℕ) (k : Desk) (n : ℕ) (list : List ℤ) (to : List ℕ) where
-  stood : (p : Page) (l : Lists) (list' : List ℤ) (to' : List ℕ) (s : Printed bytes k n list to p l list' to') → p.going ≡ false → Stood bytes (length to) n k s.done (drop p.at bytes) p.stop
-  stood p l list' to' s off = record { starts = s.starts; roomy = s.roomy; why = subst (λ f. Stopped p.stop (length to - f) (drop p.at bytes)) (s.text.behind ∙ zero-add _) (s.stop off) }
+-- all that `print` promises of the page that it answers
+abbrev pub Paged : List ℕ → Desk → ℕ → List ℤ → List ℕ → Page → Lists → Tally → List ℤ → List ℕ → Type 0
+Paged bytes k n list to p l t list' to' = Printed bytes k n list to p.progress l t list' to' × Stopped p.stop (length to - p.progress.filled) (drop p.progress.at bytes)
 
-  pub one-page : (p q : Page) (l m : Lists) (list₁ list₂ : List ℤ) (to₁ to₂ : List ℕ) → Printed bytes k n list to p l list₁ to₁ → p.going ≡ false → Printed bytes k n list to q m list₂ to₂ → q.going ≡ false → SamePage p q l m list₁ list₂ to₁ to₂
-  one-page p q l m list₁ list₂ to₁ to₂ s s-off t t-off =
-      let both = one-start bytes (length to) n k s.done t.done _ _ p.stop q.stop (stood p l list₁ to₁ s s-off) (stood q m list₂ to₂ t t-off) in
-      let done : s.done ≡ t.done = both.0 in
-      let places : p.filled ≡ q.filled = s.text.behind ∙ ap (λ cs. 0 + length (lines_from n k cs)) done ∙ sym t.text.behind in
-      let desks : desk_of l p.tally ≡ desk_of m q.tally = s.desk ∙ ap (through k) done ∙ sym t.desk in
-      let p-stop = subst (λ f. Stopped p.stop (length to - f) (drop p.at bytes)) places (s.stop s-off) in
+module _ (bytes : List ℕ) (k : Desk) (n : ℕ) (list : List ℤ) (to : List ℕ) where
+  stood : (p : Page) (l : Lists) (t : Tally) (list' : List ℤ) (to' : List ℕ) (s : Paged bytes k n list to p l t list' to') → Stood bytes (length to) n k s.0.done (drop p.progress.at bytes) p.stop
+  stood p l t list' to' s = record { starts = s.0.starts; roomy = s.0.roomy; why = subst (λ f. Stopped p.stop (length to - f) (drop p.progress.at bytes)) (s.0.text.behind ∙ zero-add _) s.1 }
+
+  pub one-page : (p q : Page) (l m : Lists) (t u : Tally) (list₁ list₂ : List ℤ) (to₁ to₂ : List ℕ) → Paged bytes k n list to p l t list₁ to₁ → Paged bytes k n list to q m u list₂ to₂ → SamePage p q l m t u list₁ list₂ to₁ to₂
+  one-page p q l m t u list₁ list₂ to₁ to₂ first second =
+      let both = one-start bytes (length to) n k first.0.done second.0.done _ _ p.stop q.stop (stood p l t list₁ to₁ first) (stood q m u list₂ to₂ second) in
+      let a = first.0 in
+      let b = second.0 in
+      let done : a.done ≡ b.done = both.0 in
+      let places : p.progress.filled ≡ q.progress.filled = a.text.behind ∙ ap (λ cs. 0 + length (lines_from n k cs)) done ∙ sym b.text.behind in
+      let desks : desk_of l t ≡ desk_of m u = a.desk ∙ ap (through k) done ∙ sym b.desk in
+      let p-stop = subst (λ f. Stopped p.stop (length to - f) (drop p.progress.at bytes)) places first.1 in
       record {
-        at = omega (arith, ap length both.1, length-drop p.at bytes, length-drop q.at bytes, s.there, t.there);
+        at = omega (arith, ap length both.1, length-drop p.progress.at bytes, length-drop q.progress.at bytes, a.there, b.there);
         filled = places;
-        records = s.records ∙ ap (λ cs. n + length cs) done ∙ sym t.records;
+        records = a.records ∙ ap (λ cs. n + length cs) done ∙ sym b.records;
         tally = ap (λ (d : Desk). d.tally) desks;
-        stop = one-reason p.stop q.stop (length to - q.filled) (drop q.at bytes) (subst (Stopped p.stop (length to - q.filled)) both.1 p-stop) (t.stop t-off);
+        stop = one-reason p.stop q.stop (length to - q.progress.filled) (drop q.progress.at bytes) (subst (Stopped p.stop (length to - q.progress.filled)) both.1 p-stop) second.1;
         meaning = ap (λ (d : Desk). d.register) desks;
-        form = s.form ∙ sym t.form;
-        coordinates = s.coordinates ∙ ap (λ cs. noted cs list) done ∙ sym t.coordinates;
-        text = s.text.left ∙ ap (λ cs. laid 0 (lines_from n k cs) to) done ∙ sym t.text.left;
+        form = a.form ∙ sym b.form;
+        coordinates = a.coordinates ∙ ap (λ cs. noted cs list) done ∙ sym b.coordinates;
+        text = a.text.left ∙ ap (λ cs. laid 0 (lines_from n k cs) to) done ∙ sym b.text.left;
       }

@@ -2,7 +2,7 @@
 use Prim.Native.Nat.{ℕ, zero-le, suc, ◌+◌, ◌-◌, ◌≤◌, ◌<◌}
 use native.Mathlib.Omega.{arith}
 use mathlib.Core.Path.{◌≡◌, refl, sym, ap, subst, ◌∙◌}
-use mathlib.Core.Bool.{Bool, true, false, true≢false}
+use mathlib.Core.Bool.{true}
 use mathlib.Core.List.{List, [], ◌∷◌, ◌++◌, append_assoc, append-nil}
 use lib.IntN.{ℤ}
 use lib.ListN.{length, drop, length-drop, length-append}
@@ -14,12 +14,10 @@ use Rattle.records.specs.Decoding.{pairs_of}
 use Rattle.records.proofs.Sizes.{Size, whole-size}
 use Rattle.wording.specs.Lines.{room}
 use Rattle.wording.proofs.Laying.{joined, laid_as}
-use Rattle.stream.specs.declared.Stop.TheVariants.{More}
-use Rattle.index.specs.declared.Axes.{Axes}
-use Rattle.stream.specs.declared.Page.{Page}
+use Rattle.stream.specs.declared.printing.Progress.{Progress}
 use Rattle.stream.specs.Streams.{Starts}
 use Rattle.stream.specs.Desks.{Desk, desk_of, next, through, line_of, lines_from}
-use Rattle.stream.specs.Printing.{Stopped, Roomy, noted, Printed, numbers, Ready, Wrote, Rests, TurnedBy}
+use Rattle.stream.specs.Printing.{Roomy, noted, Printed, numbers, Ready, Wrote}
 use Rattle.stream.proofs.Starting.{starts_more, starts-one, starts-few}
 
 -- ---- calls and lines, one list behind another
@@ -58,9 +56,9 @@ noted_more (d ∷ cs) c list = noted_more cs c (written (pairs_of d) list)
 
 -- ---- before the first turn
 
-pub printed-none : (bytes : List ℕ) (t : Tally) (n : ℕ) (list : List ℤ) (to : List ℕ) (l : Lists) (x : Axes) → formed l ≡ true → Printed bytes (desk_of l t) n list to (record { at = 0; filled = 0; records = n; tally = t; axes = x; going = true; stop = More }) l list to
+pub printed-none : (bytes : List ℕ) (t : Tally) (n : ℕ) (list : List ℤ) (to : List ℕ) (l : Lists) → formed l ≡ true → Printed bytes (desk_of l t) n list to (record { at = 0; filled = 0; records = n }) l t list to
 unfolding through lines_from Starts Roomy noted
-printed-none bytes t n list to l x good = record {
+printed-none bytes t n list to l good = record {
   done = [];
   starts = refl;
   there = omega arith;
@@ -71,12 +69,11 @@ printed-none bytes t n list to l x good = record {
   coordinates = refl;
   text = record { behind = refl; left = refl };
   fits = omega arith;
-  stop = λ e. absurd (true≢false e);
 }
 
 -- ---- a turn
 
-module _ (bytes : List ℕ) (k : Desk) (n : ℕ) (list : List ℤ) (to : List ℕ) (p : Page) (l : Lists) (list' : List ℤ) (now : List ℕ) (so_far : Printed bytes k n list to p l list' now) where
+module _ (bytes : List ℕ) (k : Desk) (n : ℕ) (list : List ℤ) (to : List ℕ) (p : Progress) (l : Lists) (t : Tally) (list' : List ℤ) (now : List ℕ) (so_far : Printed bytes k n list to p l t list' now) where
   abbrev rest : List ℕ
   rest = drop p.at bytes
 
@@ -84,19 +81,19 @@ module _ (bytes : List ℕ) (k : Desk) (n : ℕ) (list : List ℤ) (to : List �
   pub printed-few : length so_far.done ≤ p.at
   printed-few = omega (arith, starts-few bytes rest so_far.done so_far.starts, length-drop p.at bytes, so_far.there)
 
-  pub ready : length now ≡ length to → n + length bytes < numbers → Ready bytes p l now
+  pub ready : length now ≡ length to → n + length bytes < numbers → Ready bytes p now
   ready same few = record {
     there = so_far.there;
     fits = omega (arith, so_far.fits, same);
-    form = so_far.form;
     long = omega (arith, few);
     countable = omega (arith, few, so_far.records, printed-few, so_far.there);
   }
 
-  module _ (q : Page) (l' : Lists) (list'' : List ℤ) (now' : List ℕ) where
-    goes : q.going ≡ true → length now ≡ length to → Wrote bytes p l list' now q l' list'' now' → Printed bytes k n list to q l' list'' now'
+  module _ (q : Progress) (l' : Lists) (t' : Tally) (list'' : List ℤ) (now' : List ℕ) (same : length now ≡ length to) where
+    -- one record more
+    pub printed-more : Wrote bytes p l t list' now q l' t' list'' now' → Printed bytes k n list to q l' t' list'' now'
     unfolding through
-    goes on same w = record {
+    printed-more w = record {
       done = so_far.done ++ w.call ∷ [];
       starts = starts_more bytes rest (drop q.at bytes) so_far.done (w.call ∷ []) so_far.starts (subst (Starts rest (w.call ∷ [])) (sym behind) (starts-one rest w.call w.size w.is));
       there = omega (arith, w.at, size.there, length-drop p.at bytes, so_far.there);
@@ -107,7 +104,6 @@ module _ (bytes : List ℕ) (k : Desk) (n : ℕ) (list : List ℤ) (to : List �
       coordinates = w.coordinates ∙ ap (written (pairs_of w.call)) so_far.coordinates ∙ sym (noted_more so_far.done w.call list);
       text = laid_as (sym lines) (joined zero-le so_far.text w.text);
       fits = omega (arith, w.fits, same);
-      stop = λ e. absurd (true≢false (sym on ∙ e));
     }
       where
         behind : drop q.at bytes ≡ drop w.size rest
@@ -116,44 +112,9 @@ module _ (bytes : List ℕ) (k : Desk) (n : ℕ) (list : List ℤ) (to : List �
         size : Size rest w.size
         size = whole-size rest w.call w.size w.is
 
-        lines : lines_from n k (so_far.done ++ w.call ∷ []) ≡ lines_from n k so_far.done ++ line_of p.records (desk_of l p.tally) w.call
+        lines : lines_from n k (so_far.done ++ w.call ∷ []) ≡ lines_from n k so_far.done ++ line_of p.records (desk_of l t) w.call
         lines = one-line-more n k so_far.done w.call ∙ (λ i. lines_from n k so_far.done ++ line_of (sym so_far.records i) (sym so_far.desk i) w.call)
 
-    ends : length now ≡ length to → Rests bytes p l list' now q l' list'' now' → Printed bytes k n list to q l' list'' now'
-    ends same w =
-        subst (λ page. Printed bytes k n list to page l' list'' now') (sym w.page)
-        (subst (λ m. Printed bytes k n list to page m list'' now') w.lists
-        (subst (λ m. Printed bytes k n list to page l m now') w.coordinates
-        (subst (λ text. Printed bytes k n list to page l list' text) w.text stays)))
-      where
-        page : Page
-        page = record { at = p.at; filled = p.filled; records = p.records; tally = p.tally; axes = q.axes; going = false; stop = q.stop }
-
-        stays : Printed bytes k n list to page l list' now
-        stays = record {
-          done = so_far.done;
-          starts = so_far.starts;
-          there = so_far.there;
-          roomy = so_far.roomy;
-          form = so_far.form;
-          desk = so_far.desk;
-          records = so_far.records;
-          coordinates = so_far.coordinates;
-          text = so_far.text;
-          fits = so_far.fits;
-          stop = λ e. subst (λ m. Stopped q.stop (m - p.filled) rest) same w.why;
-        }
-
-    pub printed-more : length now ≡ length to → TurnedBy bytes p l list' now q l' list'' now' → Printed bytes k n list to q l' list'' now'
-    printed-more same turned = say q.going refl
-      where
-        say : (b : Bool) → q.going ≡ b → Printed bytes k n list to q l' list'' now'
-        say true e = goes e same (turned.goes e)
-        say false e = ends same (turned.ends e)
-
-    -- a turn goes on in the bytes, or stays where it was
-    pub onward : TurnedBy bytes p l list' now q l' list'' now' → q.going ≡ true → p.at < q.at
-    onward turned e = let w = turned.goes e in omega (arith, w.at, (whole-size rest w.call w.size w.is).least)
-
-    pub stayed : TurnedBy bytes p l list' now q l' list'' now' → q.going ≡ false → q.at ≡ p.at
-    stayed turned e = ap (λ (x : Page). x.at) (turned.ends e).page
+    -- a turn goes on in the bytes
+    pub onward : Wrote bytes p l t list' now q l' t' list'' now' → p.at < q.at
+    onward w = omega (arith, w.at, (whole-size rest w.call w.size w.is).least)

@@ -27,8 +27,8 @@ use Rattle.records.specs.Layout.{Front, whole, more, broken, front}
 use Rattle.records.proofs.Fronts.{front-short}
 use Rattle.records.proofs.Longer.{broken-longer}
 use Rattle.wording.specs.Text.{Laid}
-use Rattle.stream.specs.declared.Stop.{Stop}
-use Rattle.stream.specs.declared.Stop.TheVariants.{More, Broken}
+use Rattle.stream.specs.declared.printing.Stop.{Stop}
+use Rattle.stream.specs.declared.printing.Stop.TheVariants.{More, Broken}
 use Rattle.stream.specs.Replies.{tallied_by}
 use Rattle.stream.specs.Streams.{calls_of, left_of, broken_off, Starts}
 use Rattle.stream.specs.Desks.{Desk, desk_of, opening, next, through, answers_from, lines_from, broken_line, last_line, output}
@@ -91,14 +91,14 @@ since-more bytes s piece e so_far p =
       done = so_far.done ++ printed.done;
       starts = starts_more (bytes ++ piece) (s.held ++ piece) e.held so_far.done printed.done (starts-longer bytes s.held piece so_far.done so_far.starts) from;
       form = printed.form;
-      desk = ap (desk_of e.lists) p.tally ∙ printed.desk ∙ ap (λ d. through d printed.done) so_far.desk ∙ sym (through-more opening so_far.done printed.done);
+      desk = printed.desk ∙ ap (λ d. through d printed.done) so_far.desk ∙ sym (through-more opening so_far.done printed.done);
       records = omega (arith, p.records, printed.records, so_far.records, length-append so_far.done printed.done);
       written = p.written ∙ lines;
-      places = length p.to - p.page.filled;
-      stopped = subst (λ (x : Stop). Stopped x (length p.to - p.page.filled) e.held) (sym p.stop) (subst (Stopped p.page.stop (length p.to - p.page.filled)) (sym p.held) (printed.stop p.ended));
+      places = length p.to - p.page.progress.filled;
+      stopped = subst (λ (x : Stop). Stopped x (length p.to - p.page.progress.filled) e.held) (sym p.stop) (subst (Stopped p.page.stop (length p.to - p.page.progress.filled)) (sym p.held) p.ended);
     }
   where
-    lines : s.written ++ take p.page.filled p.to' ≡ lines_from 0 opening (so_far.done ++ p.printed.done)
+    lines : s.written ++ take p.page.progress.filled p.to' ≡ lines_from 0 opening (so_far.done ++ p.printed.done)
     lines =
         (λ i. so_far.written i ++ laid-first _ _ _ _ p.printed.text i)
         ∙ (λ i. lines_from 0 opening so_far.done ++ lines_from ((so_far.records ∙ sym (zero-add _)) i) (so_far.desk i) p.printed.done)

@@ -1,28 +1,29 @@
--- One turn of printing: a record was answered, or there was none. Assumes nothing.
+-- One turn of printing in which a record was answered. Assumes nothing.
 use Prim.Native.Nat.{ℕ, ◌+◌, ◌-◌, ◌≤◌, ◌<◌}
 use native.Mathlib.Omega.{arith}
-use mathlib.Core.Path.{◌≡◌, refl, sym, ap, subst, ◌∙◌}
-use mathlib.Core.Bool.{Bool, true, false, true≢false}
-use mathlib.Core.List.{List, []}
+use mathlib.Core.Path.{◌≡◌, refl, sym, ap, subst, transport, ◌∙◌}
+use mathlib.Core.Bool.{Bool, true}
+use mathlib.Core.List.{List}
 use lib.IntN.{ℤ}
-use lib.ListN.{length, drop, length-drop}
+use lib.ListN.{length, take, drop, length-drop}
+use lib.Seq.{take-length}
+use Rattle.std.specs.Prelude.{Option, None, Some, Ok}
 use Rattle.districts.specs.Register.{Register}
 use Rattle.districts.specs.Lent.{Lists, formed, means, written}
 use Rattle.tally.specs.declared.Tally.{Tally}
 use Rattle.history.specs.Histories.{Call}
 use Rattle.records.specs.Layout.{Front, whole, more, broken, front}
 use Rattle.records.specs.Decoding.{taken_for, written_for}
-use Rattle.records.proofs.Sizes.{whole-size}
+use Rattle.records.proofs.Sizes.{Size, whole-size}
 use Rattle.wording.specs.Text.{Laid}
-use Rattle.wording.specs.Lines.{Kind, outline, Said, ok, line, room}
+use Rattle.wording.specs.Lines as Lines
+use Rattle.wording.specs.Lines.{Kind, outline, Said, ok, line, room, said_of}
 use Rattle.wording.proofs.Written.{line-short}
-use Rattle.stream.specs.declared.Advanced.{Advanced}
-use Rattle.index.specs.declared.Axes.{Axes}
+use Rattle.stream.specs.declared.advancing.Advanced.{Advanced}
 use Rattle.stream.specs.Replies.{replied, kind_of}
-use Rattle.stream.specs.Advancing.{Told, answered, unfinished, unreadable, told_of, told_for, LeftFor, tallied_for, AdvancedBy}
-use Rattle.stream.specs.declared.Stop.{Stop}
-use Rattle.stream.specs.declared.Page.{Page}
-use Rattle.stream.specs.Printing.{Stopped, numbers, Wrote, TurnedBy}
+use Rattle.stream.specs.Advancing.{Told, answered, unfinished, unreadable, told_for, LeftFor, tallied_for, AdvancedBy}
+use Rattle.stream.specs.declared.printing.Progress.{Progress}
+use Rattle.stream.specs.Printing.{numbers, TurnedBy}
 use Rattle.stream.proofs.Steps.{stepped, desk-next}
 
 -- ---- what was told says what was there
@@ -54,84 +55,59 @@ told-whole (whole c n) k s well_formed g t e = record { call = c; size = n; is =
 told-whole more k s well_formed g t e = absurd (let f : ⊥ = omega (arith, ap place_of e) in f)
 told-whole broken k s well_formed g t e = absurd (let f : ⊥ = omega (arith, ap place_of e) in f)
 
-told_more : (x : Front) (well_formed : Bool) (g : Register) (t : Tally) → unfinished ≡ told_for x well_formed g t → x ≡ more
-told_more (whole c n) well_formed g t e = absurd (let f : ⊥ = omega (arith, ap place_of e) in f)
-told_more more well_formed g t e = refl
-told_more broken well_formed g t e = absurd (let f : ⊥ = omega (arith, ap place_of e) in f)
+-- ---- the turn
 
-told-broken : (x : Front) (well_formed : Bool) (g : Register) (t : Tally) → unreadable ≡ told_for x well_formed g t → x ≡ broken
-told-broken (whole c n) well_formed g t e = absurd (let f : ⊥ = omega (arith, ap place_of e) in f)
-told-broken more well_formed g t e = absurd (let f : ⊥ = omega (arith, ap place_of e) in f)
-told-broken broken well_formed g t e = refl
-
--- ---- a turn that ends
-
-abbrev pub ended_as : Page → Axes → Stop → Page
-ended_as p x s = record { at = p.at; filled = p.filled; records = p.records; tally = p.tally; axes = x; going = false; stop = s }
-
-pub rests : (bytes : List ℕ) (p : Page) (l : Lists) (list : List ℤ) (to : List ℕ) (q : Page) (l' : Lists) (list' : List ℤ) (x : Axes) (s : Stop) → q ≡ ended_as p x s → l ≡ l' → list ≡ list' → Stopped s (length to - p.filled) (drop p.at bytes) → TurnedBy bytes p l list to q l' list' to
-rests bytes p l list to q l' list' x s e same noted why = record {
-  goes = λ g. absurd (true≢false (sym g ∙ ap (λ (x : Page). x.going) e));
-  ends = λ g. record { page = e ∙ (λ i. ended_as p (axes i) (stops i)); lists = same; coordinates = noted; text = refl; why = subst (λ x. Stopped x (length to - p.filled) (drop p.at bytes)) stops why };
-}
-  where
-    axes : x ≡ q.axes
-    axes = sym (ap (λ (r : Page). r.axes) e)
-
-    stops : s ≡ q.stop
-    stops = sym (ap (λ (r : Page). r.stop) e)
-
-module _ (bytes : List ℕ) (p : Page) (before after : Lists) (r : Advanced) (lent lent' : List ℤ) (by : AdvancedBy r (front (drop p.at bytes)) p.tally lent lent' before after) where
+module _ (bytes : List ℕ) (p : Progress) (before after : Lists) (t t' : Tally) (o : Option Advanced) (a : Advanced) (some : o ≡ Some a) (lent lent' : List ℤ)
+    (seen : AdvancedBy (Ok o) (front (take (length bytes - p.at) (drop p.at bytes))) t t' lent lent' before after) where
   abbrev rest : List ℕ
   rest = drop p.at bytes
 
-  -- what was told is what stands at the front
-  tells : (t : Told) → told_of r.told ≡ t → t ≡ told_for (front rest) (formed before) (means before) p.tally
-  tells t e = sym e ∙ by.told
+  abbrev kind : Kind
+  kind = Lines.kind_of a.kind
 
-  pub tells_more : told_of r.told ≡ unfinished → front rest ≡ more
-  tells_more e = told_more (front rest) _ _ _ (tells unfinished e)
+  abbrev said : Said
+  said = said_of a.said
 
-  pub tells-broken : told_of r.told ≡ unreadable → front rest ≡ broken
-  tells-broken e = told-broken (front rest) _ _ _ (tells unreadable e)
+  all_rest : take (length bytes - p.at) rest ≡ rest
+  all_rest = ap (λ n. take n rest) (sym (length-drop p.at bytes)) ∙ take-length rest
 
-  pub ends_with : (x : Front) (a : Axes) (s : Stop) (q : Page) (to : List ℕ) → front rest ≡ x → (LeftFor x before after → before ≡ after) → written_for x ≡ [] → q ≡ ended_as p a s → Stopped s (length to - p.filled) rest → TurnedBy bytes p before lent to q after lent' to
-  ends_with x a s q to there same none is why =
-      let left = subst (λ y. LeftFor y before after) there by.left in
-      rests bytes p before lent to q after lent' a s is (same left) (sym (by.coordinates ∙ ap (λ xs. written xs lent) (ap written_for there ∙ none))) why
+  by : AdvancedBy (Ok (Some a)) (front rest) t t' lent lent' before after
+  by = transport (λ i. AdvancedBy (Ok (some i)) (front (all_rest i)) t t' lent lent' before after) seen
 
-  -- ---- a turn that goes on
+  there : Whole (front rest) kind said (formed before) (means before) t
+  there = told-whole (front rest) kind said _ _ _ by.told
+
+  size : Size rest there.size
+  size = whole-size rest there.call there.size there.is
+
+  taken : a.taken ≡ there.size
+  taken = by.taken ∙ ap taken_for there.is
+
+  -- the record is there
+  pub next-there : p.at ≤ length bytes → p.at + a.taken ≤ length bytes
+  next-there h = omega (arith, h, taken, size.there, length-drop p.at bytes)
 
   -- a record has bytes, so the numbers have not come to their end
-  pub next-countable : (k : Kind) (s : Said) → told_of r.told ≡ answered k s → p.records + (length bytes - p.at) < numbers → p.records + 1 < numbers
-  next-countable k s e h =
-      let there = told-whole (front rest) k s _ _ _ (tells (answered k s) e) in
-      let size = whole-size rest there.call there.size there.is in
-      omega (arith, h, size.least, size.there, length-drop p.at bytes)
+  pub next-countable : p.records + (length bytes - p.at) < numbers → p.records + 1 < numbers
+  next-countable h = omega (arith, h, size.least, size.there, length-drop p.at bytes)
 
-  pub goes_on : (k : Kind) (s : Said) (q : Page) (to to' : List ℕ) → formed before ≡ true → p.filled + room ≤ length to → told_of r.told ≡ answered k s → q.at ≡ p.at + r.taken → q.records ≡ p.records + 1 → q.tally ≡ r.tally → q.going ≡ true
-      → Laid q.filled p.filled (line p.records k s) to to' → TurnedBy bytes p before lent to q after lent' to'
-  goes_on k s q to to' good places e at n t on laid = record { goes = λ g. wrote; ends = λ g. absurd (true≢false (sym on ∙ g)) }
-    where
-      there : Whole (front rest) k s (formed before) (means before) p.tally
-      there = told-whole (front rest) k s _ _ _ (tells (answered k s) e)
-
-      wrote : Wrote bytes p before lent to q after lent' to'
-      wrote =
-          let c = there.call in
-          let left = subst (λ x. LeftFor x before after) there.is by.left in
-          let tallies = t ∙ by.tally ∙ ap (λ x. tallied_for x (formed before) (means before) p.tally) there.is in
-          let said = there.said ∙ ap (λ b. replied b (means before) p.tally c) good in
-          record {
-            call = c;
-            size = there.size;
-            is = there.is;
-            at = at ∙ ap (λ m. p.at + m) (by.taken ∙ ap taken_for there.is);
-            roomy = omega (arith, places);
-            form = (stepped c before after good left).0;
-            desk = desk-next c p.tally q.tally before after good left tallies;
-            records = n;
-            coordinates = by.coordinates ∙ ap (λ x. written (written_for x) lent) there.is;
-            text = subst (λ x. Laid q.filled p.filled x to to') (λ i. line p.records (there.kind i) (said i)) laid;
-            fits = omega (arith, places, laid.behind, line-short p.records k s);
-          }
+  pub goes_on : (q : Progress) (to to' : List ℕ) → formed before ≡ true → p.filled + room ≤ length to → q.at ≡ p.at + a.taken → q.records ≡ p.records + 1
+      → Laid q.filled p.filled (line p.records kind said) to to' → TurnedBy bytes p before t lent to None q after t' lent' to'
+  goes_on q to to' good places at n laid =
+      let c = there.call in
+      let left = subst (λ x. LeftFor x before after) there.is by.left in
+      let tallies = by.tally ∙ ap (λ x. tallied_for x (formed before) (means before) t) there.is in
+      let reply = there.said ∙ ap (λ b. replied b (means before) t c) good in
+      record {
+        call = c;
+        size = there.size;
+        is = there.is;
+        at = at ∙ ap (λ m. p.at + m) taken;
+        roomy = omega (arith, places);
+        form = (stepped c before after good left).0;
+        desk = desk-next c t t' before after good left tallies;
+        records = n;
+        coordinates = by.coordinates ∙ ap (λ x. written (written_for x) lent) there.is;
+        text = subst (λ x. Laid q.filled p.filled x to to') (λ i. line p.records (there.kind i) (reply i)) laid;
+        fits = omega (arith, places, laid.behind, line-short p.records kind said);
+      }

@@ -1,3 +1,4 @@
+pub mod Held
 pub mod Replies
 pub mod Advancing
 pub mod Streams

@@ -1,16 +1,16 @@
 -- A stream as a program reads it: piece by piece, each handed to `print` with what was left of those before. Assumes nothing.
-use Rattle.std.specs.Prelude.{ℕ, ◌≡◌, false, List, [], ◌∷◌, ◌++◌, ℤ, take, drop}
+use Rattle.std.specs.Prelude.{ℕ, ◌-◌, ◌≡◌, List, [], ◌∷◌, ◌++◌, ℤ, length, take, drop}
 use Rattle.districts.specs.Lent.{Lists}
 use Rattle.tally.specs.declared.Tally.{Tally}
 use Rattle.tally.specs.Tally.{fresh}
 use Rattle.history.specs.Histories.{Call}
 use Rattle.history.specs.Turns.{Fresh}
-use Rattle.stream.specs.declared.Stop.{Stop}
-use Rattle.stream.specs.declared.Stop.TheVariants.{More}
-use Rattle.stream.specs.declared.Page.{Page}
+use Rattle.stream.specs.declared.printing.Stop.{Stop}
+use Rattle.stream.specs.declared.printing.Stop.TheVariants.{More}
+use Rattle.stream.specs.declared.printing.Page.{Page}
 use Rattle.stream.specs.Streams.{calls_of}
 use Rattle.stream.specs.Desks.{desk_of}
-use Rattle.stream.specs.Printing.{Printed}
+use Rattle.stream.specs.Printing.{Printed, Stopped}
 
 -- where a program stands between two pieces: the register's lists, the tally, the number of records done, the bytes that were read and not
 -- taken, why the last piece was left, and all that was written
@@ -39,13 +39,12 @@ pub record Piece (s : Standing) (bytes : List ℕ) (e : Standing) : Type 0 where
   pub list' : List ℤ
   pub to : List ℕ
   pub to' : List ℕ
-  pub printed : Printed (s.held ++ bytes) (desk_of s.lists s.tally) s.records list to page e.lists list' to'
-  pub ended : page.going ≡ false
-  pub tally : e.tally ≡ page.tally
-  pub records : e.records ≡ page.records
-  pub held : e.held ≡ drop page.at (s.held ++ bytes)
+  pub printed : Printed (s.held ++ bytes) (desk_of s.lists s.tally) s.records list to page.progress e.lists e.tally list' to'
+  pub ended : Stopped page.stop (length to - page.progress.filled) (drop page.progress.at (s.held ++ bytes))
+  pub records : e.records ≡ page.progress.records
+  pub held : e.held ≡ drop page.progress.at (s.held ++ bytes)
   pub stop : e.stop ≡ page.stop
-  pub written : e.written ≡ s.written ++ take page.filled to'
+  pub written : e.written ≡ s.written ++ take page.progress.filled to'
 
 -- the bytes of a piece, and where it left the program
 pub record Part : Type 0 where

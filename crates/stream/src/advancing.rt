@@ -1,79 +1,43 @@
 // Taking the record at the front of a stream's bytes.
-ghost use Rattle.std.specs.Prelude.{◌≡◌, true};
-ghost use Rattle.districts.specs.Lent.{lent, formed};
 ghost use Rattle.records.specs.Layout.{front};
+ghost use Rattle.stream.specs.Held.{lists_at, Fit};
 ghost use Rattle.stream.specs.Advancing.{AdvancedBy};
-ghost use Rattle.index.specs.Both.{index, Fitting};
 
-use crate::{Advanced, Told, calling};
-use index::Axes;
-use records::Front;
-use tally::Tally;
-use wording::Kind;
+use crate::Desk;
+use records::Record;
+use refusals::Refusal;
+use wording::{Kind, Said};
 
-// Applies the record at the front of the bytes to a well-formed register. Its coordinates are written to the first places of `list`.
-pub fn advance(
-    bytes: &[u8],
-    list: &mut [i32; 4096],
-    ox: &mut [i32],
-    oy: &mut [i32],
-    sx: &mut [i32],
-    sy: &mut [i32],
-    runs: &mut [u32],
-    bx: &mut [i32; 128],
-    by: &mut [i32; 128],
-    mx: &mut [u64; 64],
-    my: &mut [u64; 64],
-    axes: Axes,
-    tally: Tally,
-) -> Advanced
-    requires runs_value { formed (lent ox.old oy.old sx.old sy.old runs.old) ≡ true }
-    requires fitting { Fitting axes sx.old sy.old runs.old (index bx.old by.old mx.old my.old) }
-    ensures { AdvancedBy result (front bytes.now) tally list.old list.new (lent ox.old oy.old sx.old sy.old runs.old) (lent ox.new oy.new sx.new sy.new runs.new) × Fitting result.axes sx.new sy.new runs.new (index bx.new by.new mx.new my.new) }
-{
-    let decoded = records::decode(bytes, list);
-    let front = decoded.front;
-    let taken = decoded.taken;
-    match front {
-        Front::Outline(n) => Advanced {
-            told: Told::Answered(
-                Kind::Outline,
-                calling::outline(n, list, ox, oy, sx, sy, runs),
-            ),
-            taken,
-            tally,
-            axes: axes.stale(),
-        },
-        Front::Split(d, i, j, k) => Advanced {
-            told: Told::Answered(
-                Kind::Split,
-                calling::split(d, i, j, k, list, ox, oy, sx, sy, runs),
-            ),
-            taken,
-            tally,
-            axes: axes.stale(),
-        },
-        Front::Merge(kept, a, gone, b, k) => Advanced {
-            told: Told::Answered(
-                Kind::Merge,
-                calling::merge(kept, a, gone, b, k, ox, oy, sx, sy, runs),
-            ),
-            taken,
-            tally,
-            axes: axes.stale(),
-        },
-        Front::Report(s) => calling::report(s, taken, sx, sy, runs, bx, by, mx, my, axes, tally),
-        Front::More => Advanced {
-            told: Told::More,
-            taken,
-            tally,
-            axes,
-        },
-        Front::Broken => Advanced {
-            told: Told::Broken,
-            taken,
-            tally,
-            axes,
-        },
+// A record's kind, what was answered, and how many bytes it has.
+#[derive(Clone, Copy)]
+pub struct Advanced {
+    pub kind: Kind,
+    pub said: Said,
+    pub taken: usize,
+}
+
+impl Desk {
+    // Applies the record at the front of the bytes, whose coordinates are written to the first places of a list. None where more bytes are needed, and refusal 13 where the
+    // record is broken; then nothing changes.
+    pub(crate) fn advance(
+        &mut self,
+        bytes: &[u8],
+        coordinates: &mut [i32; 4096],
+    ) -> Result<Option<Advanced>, Refusal>
+        requires { Fit self.old }
+        ensures advanced { AdvancedBy result (front bytes.now) self.old.tally self.new.tally coordinates.old coordinates.new (lists_at self.old) (lists_at self.new) }
+        ensures fit { Fit self.new }
+    {
+        let Some(decoded) = records::decode(bytes, coordinates)? else {
+            return Ok(None);
+        };
+        let taken = decoded.taken;
+        let (kind, said) = match decoded.record {
+            Record::Outline(n) => (Kind::Outline, self.outline(&coordinates[0..2 * n])),
+            Record::Split(cut, k) => (Kind::Split, self.split(cut, &coordinates[0..2 * k])),
+            Record::Merge(seam) => (Kind::Merge, self.merge(seam)),
+            Record::Report(s) => (Kind::Report(s.number), self.report(s)),
+        };
+        Ok(Some(Advanced { kind, said, taken }))
     }
 }

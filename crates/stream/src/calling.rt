@@ -1,108 +1,98 @@
-// A decoded record as a call on a well-formed register. The coordinates of an outline or a path are the first of `list`.
-ghost use Rattle.std.specs.Prelude.{◌≡◌, true, List, ◌*◌, ◌≤◌, length, take};
-ghost use Rattle.ring.specs.declared.Point.{Point};
-ghost use Rattle.ring.specs.Columns.{points};
-ghost use Rattle.districts.specs.Lists.{meaning};
-ghost use Rattle.districts.specs.Lent.{lent, formed, GoodRuns};
-ghost use Rattle.history.specs.Histories.{founding, splitting, merging};
+// A record as a call on the register of a desk. After a change the index that was kept fits no more.
+ghost use Rattle.std.specs.Prelude.{◌≡◌, true, None};
+ghost use Rattle.districts.specs.Lent.{means};
+ghost use Rattle.history.specs.Histories.{founding, splitting, merging, reporting};
 ghost use Rattle.wording.specs.Lines.{said_of};
-ghost use Rattle.stream.specs.Replies.{ChangedBy};
-ghost use Rattle.stream.specs.Advancing.{ReportedBy};
-ghost use Rattle.index.specs.Both.{index, Fitting};
+ghost use Rattle.stream.specs.Held.{lists_at, Fit};
+ghost use Rattle.stream.specs.Replies.{ChangedBy, replied, tallied_by};
 
-use crate::{Advanced, Told, counting, saying};
-use index::Axes;
+use crate::{Desk, saying};
+use changes::{Cut, Seam};
+use districts::{Lists, ListsToChange, ListsToFound};
+use index::Index;
 use records::Sighting;
-use tally::Tally;
-use wording::{Kind, Said};
+use wording::Said;
 
-pub fn outline(
-    n: usize,
-    list: &[i32],
-    ox: &mut [i32],
-    oy: &mut [i32],
-    sx: &mut [i32],
-    sy: &mut [i32],
-    runs: &mut [u32],
-) -> Said
-    requires n_in_bounds { 2 * n ≤ length list.now }
-    requires runs_value { formed (lent ox.old oy.old sx.old sy.old runs.old) ≡ true }
-    ensures { ChangedBy (said_of result) (founding (take (2 * n) list.now)) (lent ox.old oy.old sx.old sy.old runs.old) (lent ox.new oy.new sx.new sy.new runs.new) }
-{
-    let end = 2 * n;
-    saying::founded(register::found_known(true, ox, oy, sx, sy, runs, &list[0..end]))
-}
+impl Desk {
+    fn drop_index(&mut self)
+        ensures index { self.new.index ≡ None }
+        ensures lists { lists_at self.new ≡ lists_at self.old }
+        ensures tally { self.new.tally ≡ self.old.tally }
+    {
+        self.index = None;
+    }
 
-pub fn split(
-    d: usize,
-    i: usize,
-    j: usize,
-    k: usize,
-    list: &[i32],
-    ox: &[i32],
-    oy: &[i32],
-    sx: &mut [i32],
-    sy: &mut [i32],
-    runs: &mut [u32],
-) -> Said
-    requires k_in_bounds { 2 * k ≤ length list.now }
-    requires runs_value { formed (lent ox.now oy.now sx.old sy.old runs.old) ≡ true }
-    ensures { ChangedBy (said_of result) (splitting d i j (take (2 * k) list.now)) (lent ox.now oy.now sx.old sy.old runs.old) (lent ox.now oy.now sx.new sy.new runs.new) }
-{
-    let end = 2 * k;
-    saying::changed(changes::split_known(true, ox, oy, sx, sy, runs, d, i, j, &list[0..end]))
-}
+    // The caller's list has the points of the outline.
+    pub(crate) fn outline(&mut self, ring: &[i32]) -> Said
+        ensures changed { ChangedBy (said_of result) (founding ring.now) (lists_at self.old) (lists_at self.new) }
+        ensures tally { self.new.tally ≡ self.old.tally }
+        ensures fit { Fit self.new }
+    {
+        let mut lists = ListsToFound {
+            ox: &mut self.ox,
+            oy: &mut self.oy,
+            sx: &mut self.sx,
+            sy: &mut self.sy,
+            runs: &mut self.runs,
+        };
+        let answer = register::found_known(true, &mut lists, ring);
+        self.drop_index();
+        saying::founded(answer)
+    }
 
-pub fn merge(
-    kept: usize,
-    a: usize,
-    gone: usize,
-    b: usize,
-    k: usize,
-    ox: &[i32],
-    oy: &[i32],
-    sx: &mut [i32],
-    sy: &mut [i32],
-    runs: &mut [u32],
-) -> Said
-    requires { formed (lent ox.now oy.now sx.old sy.old runs.old) ≡ true }
-    ensures { ChangedBy (said_of result) (merging kept a gone b k) (lent ox.now oy.now sx.old sy.old runs.old) (lent ox.now oy.now sx.new sy.new runs.new) }
-{
-    saying::changed(changes::merge_known(true, ox, oy, sx, sy, runs, kept, a, gone, b, k))
-}
+    pub(crate) fn split(&mut self, cut: Cut, path: &[i32]) -> Said
+        ensures changed { ChangedBy (said_of result) (splitting cut.d cut.i cut.j path.now) (lists_at self.old) (lists_at self.new) }
+        ensures tally { self.new.tally ≡ self.old.tally }
+        ensures fit { Fit self.new }
+    {
+        let mut lists = ListsToChange {
+            ox: &self.ox,
+            oy: &self.oy,
+            sx: &mut self.sx,
+            sy: &mut self.sy,
+            runs: &mut self.runs,
+        };
+        let answer = changes::split_known(true, &mut lists, cut, path);
+        self.drop_index();
+        saying::changed(answer)
+    }
 
-pub fn report(
-    s: Sighting,
-    taken: usize,
-    sx: &[i32],
-    sy: &[i32],
-    runs: &[u32],
-    bx: &mut [i32; 128],
-    by: &mut [i32; 128],
-    mx: &mut [u64; 64],
-    my: &mut [u64; 64],
-    axes: Axes,
-    tally: Tally,
-) -> Advanced
-    requires good_runs { GoodRuns sx.now sy.now runs.now }
-    requires fitting { Fitting axes sx.now sy.now runs.now (index bx.old by.old mx.old my.old) }
-    ensures { ((outline : List Point) → ReportedBy result taken s.number s.position tally (meaning outline (points sx.now sy.now) runs.now)) × Fitting result.axes sx.now sy.now runs.now (index bx.new by.new mx.new my.new) }
-{
-    let number = s.number;
-    let position = s.position;
-    let fit = index::fitted(sx, sy, runs, bx, by, mx, my, axes);
-    let ax = fit.x;
-    let ay = fit.y;
-    let outcome = counting::counted(
-        tally,
-        register::assign_listed(sx, sy, runs, bx, by, mx, my, ax, ay, number, position),
-    );
-    let answer = outcome.answer;
-    let next = outcome.tally;
-    Advanced {
-        told: Told::Answered(Kind::Report(number), saying::assigned(answer)),
-        taken,
-        tally: next,
-        axes: fit,
+    pub(crate) fn merge(&mut self, seam: Seam) -> Said
+        ensures changed { ChangedBy (said_of result) (merging seam.kept seam.a seam.gone seam.b seam.k) (lists_at self.old) (lists_at self.new) }
+        ensures tally { self.new.tally ≡ self.old.tally }
+        ensures fit { Fit self.new }
+    {
+        let mut lists = ListsToChange {
+            ox: &self.ox,
+            oy: &self.oy,
+            sx: &mut self.sx,
+            sy: &mut self.sy,
+            runs: &mut self.runs,
+        };
+        let answer = changes::merge_known(true, &mut lists, seam);
+        self.drop_index();
+        saying::changed(answer)
+    }
+
+    pub(crate) fn report(&mut self, s: Sighting) -> Said
+        requires { Fit self.old }
+        ensures told { said_of result ≡ replied true (means (lists_at self.old)) self.old.tally (reporting s.number s.position) }
+        ensures tally { self.new.tally ≡ tallied_by true (means (lists_at self.old)) self.old.tally (reporting s.number s.position) }
+        ensures lists { lists_at self.new ≡ lists_at self.old }
+        ensures fit { Fit self.new }
+    {
+        let lists = Lists {
+            ox: &self.ox,
+            oy: &self.oy,
+            sx: &self.sx,
+            sy: &self.sy,
+            runs: &self.runs,
+        };
+        let store = lists.store();
+        // It has a name, because of a closure written within the call the proof would know nothing.
+        let make = || Index::of(&store);
+        let index = self.index.get_or_insert_with(make);
+        let answer = register::assign_listed(&store, index, s.number, s.position);
+        saying::assigned(self.tally.count(answer))
     }
 }

@@ -1,135 +1,89 @@
 // Printing: the records of some bytes are applied one after the other, and their lines written to a lent list, until it is full or there is
 // no whole record.
-ghost use Rattle.std.specs.Prelude.{◌≡◌, true, false, ◌+◌, ◌<◌, length};
-ghost use Rattle.districts.specs.Lent.{lent, formed};
+ghost use Rattle.std.specs.Prelude.{◌≡◌, ◌+◌, ◌-◌, ◌<◌, length, drop};
 ghost use Rattle.stream.specs.Desks.{desk_of};
-ghost use Rattle.index.specs.Both.{index, Fitting};
-ghost use Rattle.stream.specs.Printing.{Printed, numbers, Ready, TurnedBy};
+ghost use Rattle.stream.specs.Held.{lists_at, Fit};
+ghost use Rattle.stream.specs.Printing.{Printed, Stopped, numbers, Ready, TurnedBy};
 
-use crate::{Page, Stop, Told, advancing};
-use index::Axes;
-use tally::Tally;
+use crate::Desk;
 
-fn ended(p: Page, axes: Axes, stop: Stop) -> Page
-    ensures { result ≡ record { at = p.at; filled = p.filled; records = p.records; tally = p.tally; axes = axes; going = false; stop = stop } }
-{
-    let tally = p.tally;
-    Page {
-        at: p.at,
-        filled: p.filled,
-        records: p.records,
-        tally,
-        axes,
-        going: false,
-        stop,
-    }
+// Why printing stopped.
+#[derive(Clone, Copy)]
+pub enum Stop {
+    // The lent list has no room for another line.
+    Full,
+    // What is left is the beginning of a record, or nothing.
+    More,
+    Broken,
 }
 
-fn print_record(
-    bytes: &[u8],
-    coordinates: &mut [i32; 4096],
-    ox: &mut [i32],
-    oy: &mut [i32],
-    sx: &mut [i32],
-    sy: &mut [i32],
-    runs: &mut [u32],
-    bx: &mut [i32; 128],
-    by: &mut [i32; 128],
-    mx: &mut [u64; 64],
-    my: &mut [u64; 64],
-    to: &mut [u8],
-    p: Page,
-) -> Page
-    requires ready { Ready bytes.now p (lent ox.old oy.old sx.old sy.old runs.old) to.old }
-    requires fitting { Fitting p.axes sx.old sy.old runs.old (index bx.old by.old mx.old my.old) }
-    ensures { TurnedBy bytes.now p (lent ox.old oy.old sx.old sy.old runs.old) coordinates.old to.old result (lent ox.new oy.new sx.new sy.new runs.new) coordinates.new to.new × Fitting result.axes sx.new sy.new runs.new (index bx.new by.new mx.new my.new) }
-{
-    let at = p.at;
-    let filled = p.filled;
-    if to.len() - filled < wording::ROOM {
-        let axes = p.axes;
-        return ended(p, axes, Stop::Full);
-    }
-    let r = advancing::advance(
-        &bytes[at..],
-        coordinates,
-        ox,
-        oy,
-        sx,
-        sy,
-        runs,
-        bx,
-        by,
-        mx,
-        my,
-        p.axes,
-        p.tally,
-    );
-    let told = r.told;
-    let tally = r.tally;
-    let axes = r.axes;
-    match told {
-        Told::Answered(kind, said) => Page {
-            at: at + r.taken,
-            filled: wording::line_at(to, filled, p.records, kind, said),
-            records: p.records + 1,
-            tally,
-            axes,
-            going: true,
-            stop: Stop::More,
-        },
-        Told::More => ended(p, axes, Stop::More),
-        Told::Broken => ended(p, axes, Stop::Broken),
-    }
+// How many bytes were taken and how many places filled, and the number of the next record.
+#[derive(Clone, Copy)]
+pub struct Progress {
+    pub at: usize,
+    pub filled: usize,
+    pub records: usize,
 }
 
-pub fn print(
-    bytes: &[u8],
-    coordinates: &mut [i32; 4096],
-    ox: &mut [i32],
-    oy: &mut [i32],
-    sx: &mut [i32],
-    sy: &mut [i32],
-    runs: &mut [u32],
-    bx: &mut [i32; 128],
-    by: &mut [i32; 128],
-    mx: &mut [u64; 64],
-    my: &mut [u64; 64],
-    to: &mut [u8],
-    tally: Tally,
-    axes: Axes,
-    number: usize,
-) -> Page
-    requires runs_value { formed (lent ox.old oy.old sx.old sy.old runs.old) ≡ true }
-    requires fitting { Fitting axes sx.old sy.old runs.old (index bx.old by.old mx.old my.old) }
-    requires bytes_bound { number + length bytes.now < numbers }
-    ensures { Printed bytes.now (desk_of (lent ox.old oy.old sx.old sy.old runs.old) tally) number coordinates.old to.old result (lent ox.new oy.new sx.new sy.new runs.new) coordinates.new to.new × (result.going ≡ false) × Fitting result.axes sx.new sy.new runs.new (index bx.new by.new mx.new my.new) }
-{
-    let mut p = Page {
-        at: 0,
-        filled: 0,
-        records: number,
-        tally,
-        axes,
-        going: true,
-        stop: Stop::More,
-    };
-    while p.going {
-        p = print_record(
-            bytes,
-            coordinates,
-            ox,
-            oy,
-            sx,
-            sy,
-            runs,
-            bx,
-            by,
-            mx,
-            my,
-            to,
-            p,
-        );
+// How far printing came, and why it stopped.
+#[derive(Clone, Copy)]
+pub struct Page {
+    pub progress: Progress,
+    pub stop: Stop,
+}
+
+impl Desk {
+    // Applies one record and writes its line, or tells why not.
+    fn print_record(
+        &mut self,
+        bytes: &[u8],
+        coordinates: &mut [i32; 4096],
+        to: &mut [u8],
+        p: &mut Progress,
+    ) -> Option<Stop>
+        requires fit { Fit self.old }
+        requires ready { Ready bytes.now p.old to.old }
+        ensures fit { Fit self.new }
+        ensures turned { TurnedBy bytes.now p.old (lists_at self.old) self.old.tally coordinates.old to.old result p.new (lists_at self.new) self.new.tally coordinates.new to.new }
+    {
+        if to.len() - p.filled < wording::ROOM {
+            return Some(Stop::Full);
+        }
+        match self.advance(&bytes[p.at..], coordinates) {
+            Ok(Some(record)) => {
+                p.filled = wording::line_at(to, p.filled, p.records, record.kind, record.said);
+                p.at += record.taken;
+                p.records += 1;
+                None
+            }
+            Ok(None) => Some(Stop::More),
+            Err(_) => Some(Stop::Broken),
+        }
     }
-    p
+
+    // Prints the records of some bytes, the first of them with this number.
+    pub fn print(
+        &mut self,
+        bytes: &[u8],
+        coordinates: &mut [i32; 4096],
+        to: &mut [u8],
+        number: usize,
+    ) -> Page
+        requires fit { Fit self.old }
+        requires countable { number + length bytes.now < numbers }
+        ensures fit { Fit self.new }
+        ensures printed { Printed bytes.now (desk_of (lists_at self.old) self.old.tally) number coordinates.old to.old result.progress (lists_at self.new) self.new.tally coordinates.new to.new }
+        ensures stopped { Stopped result.stop (length to.old - result.progress.filled) (drop result.progress.at bytes.now) }
+    {
+        let mut progress = Progress {
+            at: 0,
+            filled: 0,
+            records: number,
+        };
+        loop {
+            if let Some(stop) = self.print_record(bytes, coordinates, to, &mut progress) {
+                return Page { progress, stop };
+            }
+        }
+    }
 }

@@ -1,4 +1,3 @@
-pub mod Raising
 pub mod Sums
 pub mod Totals
 pub mod Unique

@@ -3,21 +3,30 @@
 use Prim.Native.Nat.{ℕ, ◌+◌, ◌<◌}
 use native.Mathlib.Omega.{arith}
 use mathlib.Core.Path.{◌≡◌, refl}
-use mathlib.Core.Bool.{Bool, true, false, cond}
+use mathlib.Core.Bool.{Bool, true, false, cond, ◌||◌}
 use mathlib.Core.List.{List, [], ◌∷◌}
+use lib.Dec.{leb}
 use lib.ListN.{length, get_or, length-set}
 use lib.Seq.{get_or-set_same, get_or-set_other}
+use borrow.Author.Tests.{leb-false}
 use Rattle.districts.specs.Counts.{sum_to}
 use Rattle.districts.specs.Register.{numbers}
 use Rattle.districts.specs.Answers.{Belongs, border, one, none, several, Answer, report, refused}
 use Rattle.tally.specs.declared.Tally.{Tally}
 use Rattle.tally.specs.Tally.{fresh, full, raised, tallied, answered, ones_of, sum, run, accepts, accepted}
-use Rattle.tally.proofs.Raising.{one_has}
 use Rattle.tally.proofs.Sums.{sum-raised}
 
 -- a tally has a count for each number
 abbrev pub Whole : Tally → Type 0
 Whole t = length t.ones ≡ numbers
+
+neither : (a b : Bool) → (a || b) ≡ false → a ≡ false
+neither true b e = e
+neither false b e = refl
+
+-- a number whose count is not full has one
+one_has : (t : Tally) (d : ℕ) → full t (one d) ≡ false → d < numbers
+one_has t d e = leb-false numbers d (neither (leb numbers d) _ e)
 
 raised-whole : (t : Tally) (b : Belongs) → Whole t → Whole (raised t b)
 raised-whole t (border d at) w = w

@@ -1,5 +1,7 @@
 -- The rules' tally, and what an answer does to it. The contracts of `tally` cite these definitions. Assumes nothing.
-use Rattle.std.specs.Prelude.{ℕ, ◌+◌, Bool, false, cond, ◌||◌, List, [], ◌∷◌, eqb, leb, get_or, set, replicate}
+use Rattle.std.specs.Prelude.{ℕ, ◌+◌, ◌≡◌, Bool, false, cond, ◌||◌, List, [], ◌∷◌, eqb, leb, get_or, set, replicate, Option, Some, None, Result, Ok, Err}
+use Rattle.refusals.specs.declared.Refusal.{Refusal}
+use Rattle.refusals.specs.Numbers.{number_of}
 use Rattle.districts.specs.Counts.{sum_to}
 use Rattle.districts.specs.Register.{numbers}
 use Rattle.districts.specs.Answers.{Belongs, border, one, none, several, Answer, report, refused}
@@ -26,6 +28,10 @@ uncounted (one d) = leb numbers d
 uncounted none = false
 uncounted (several d n) = false
 
+-- the count that a class raises, if it has one
+abbrev pub count_if : Tally → Belongs → Option ℕ
+count_if t b = cond (uncounted b) None (Some (count_of t b))
+
 -- the count to be raised is 4,294,967,295, or there is no such count
 abbrev pub full : Tally → Belongs → Bool
 full t b = uncounted b || eqb (count_of t b) most
@@ -50,6 +56,11 @@ tallied t (refused n) = t
 abbrev pub answered : Tally → Answer → Answer
 answered t (report r b) = cond (full t b) (refused 14) (report r b)
 answered t (refused n) = refused n
+
+-- what raising the count of a class answers: the tally and the answer of every report of this class
+abbrev pub Raises : Tally → Belongs → Result Tally Refusal → Type 0
+Raises t b (Ok u) = (n : ℕ) → (u ≡ tallied t (report n b)) × (report n b ≡ answered t (report n b))
+Raises t b (Err r) = (n : ℕ) → (t ≡ tallied t (report n b)) × (refused (number_of r) ≡ answered t (report n b))
 
 -- the 64 counts of One together
 abbrev pub ones_of : Tally → ℕ

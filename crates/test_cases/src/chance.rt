@@ -1,7 +1,5 @@
-// Numbers that look like chance, from a seed that the caller keeps; the same step mixes answers into a digest.
+// Numbers that look like chance, from a seed; the same step mixes answers into a digest.
 ghost use Rattle.std.specs.Prelude.{◌<◌};
-
-use test_rows::wrapped;
 
 // The factor and the prime of Park and Miller's generator, small enough for 64 bits to hold every product.
 const FACTOR: usize = 48_271;
@@ -16,15 +14,21 @@ pub fn mixed(a: usize, b: usize) -> usize {
     (a % PRIME * FACTOR + b % PRIME) % PRIME
 }
 
-pub fn draw(seed: &mut usize, below: usize) -> usize
-    requires { 0 < below }
-    ensures { result < below }
-{
-    let next = mixed(*seed, 0);
-    *seed = next;
-    wrapped(next, below)
+#[derive(Clone, Copy)]
+pub struct Chance {
+    pub seed: usize,
 }
 
-pub fn seldom(seed: &mut usize) -> bool {
-    draw(seed, SELDOM) == 0
+impl Chance {
+    pub fn draw(&mut self, below: usize) -> usize
+        requires { 0 < below }
+        ensures { result < below }
+    {
+        self.seed = mixed(self.seed, 0);
+        self.seed % below
+    }
+
+    pub fn seldom(&mut self) -> bool {
+        self.draw(SELDOM) == 0
+    }
 }

@@ -1,12 +1,10 @@
 // What a register is asked next, by chance, from the rows: mostly what can be accepted, and seldom a number, an index or a path that has
 // to be refused.
-ghost use Rattle.std.specs.Prelude.{◌≡◌, ◌≤◌, length};
+ghost use Rattle.std.specs.Prelude.{◌≤◌};
 ghost use Rattle.test_cases.specs.Room.{room};
-ghost use Rattle.test_rows.specs.Shape.{all_rows, most_vertices};
 
-use crate::chance::{draw, seldom};
-use crate::matching;
-use test_rows::{Sent, least, wrapped};
+use crate::{Chance, matching};
+use test_rows::{NUMBERS, Rows, Sent};
 
 // Some numbers above 63 too.
 const NUMBERS_AND_MORE: usize = 70;
@@ -43,138 +41,106 @@ pub enum Edit {
 pub struct Asked {
     pub edit: Edit,
     pub m: usize,
+    ghost fits: { m ≤ room },
 }
 
-// An index of a ring of n, or seldom one beyond.
-pub fn index(n: usize, seed: &mut usize) -> usize
-    requires { n ≤ most_vertices }
-{
+// An index of row d, or seldom one beyond.
+pub fn index(rows: &Rows, d: usize, chance: &mut Chance) -> usize {
+    let n = rows.size(d);
     if n == 0 {
-        return draw(seed, SHORT);
+        return chance.draw(SHORT);
     }
-    if seldom(seed) {
-        return n + draw(seed, SHORT);
+    if chance.seldom() {
+        return n + chance.draw(SHORT);
     }
-    draw(seed, n)
+    chance.draw(n)
 }
 
-// The first number in use from one on, or 0.
-fn used_from(rows: &[i32], from: usize) -> usize
-    requires rows_len { length rows.now ≡ all_rows }
-    requires from_bound { from ≤ 64 }
-{
-    let mut t = 0;
-    while t < test_rows::NUMBERS {
-        let d = wrapped(from + t, test_rows::NUMBERS);
-        if 0 < test_rows::size(rows, d) {
-            return d;
-        }
-        t += 1;
+// A number in use, the first from one on, or seldom any number.
+pub fn district(rows: &Rows, chance: &mut Chance) -> usize {
+    if chance.seldom() {
+        return chance.draw(NUMBERS_AND_MORE);
     }
-    0
-}
-
-// A number in use, or seldom any.
-pub fn district(rows: &[i32], seed: &mut usize) -> usize
-    requires { length rows.now ≡ all_rows }
-{
-    if seldom(seed) {
-        return draw(seed, NUMBERS_AND_MORE);
-    }
-    used_from(rows, draw(seed, test_rows::NUMBERS))
+    let from = chance.draw(NUMBERS);
+    let mut numbers = (from..NUMBERS).chain(0..from);
+    numbers.find(|d| rows.in_use(*d).is_some()).unwrap_or(0)
 }
 
 // How many numbers a short path has, of a list of m: seldom any, often none.
-fn short_path(m: usize, seed: &mut usize) -> usize
+fn short_path(m: usize, chance: &mut Chance) -> usize
     requires { m ≤ room }
     ensures { result ≤ room }
 {
-    if seldom(seed) {
-        return draw(seed, m + 1);
+    if chance.seldom() {
+        return chance.draw(m + 1);
     }
-    if draw(seed, 3) == 0 {
+    if chance.draw(3) == 0 {
         return 0;
     }
-    2 * draw(seed, least(m / 2, SHORT) + 1)
+    2 * chance.draw((m / 2).min(SHORT) + 1)
 }
 
 // How many numbers a long path has: exactly those that fit, one point more, or fewer.
-fn long_path(rows: &[i32], seed: &mut usize) -> usize
-    requires { length rows.now ≡ all_rows }
+fn long_path(rows: &Rows, chance: &mut Chance) -> usize
     ensures { result ≤ room }
 {
-    let used = least(test_rows::in_use(rows).vertices, test_rows::MOST_VERTICES);
-    let pairs = (test_rows::MOST_VERTICES - used) / 2;
+    let pairs = rows.room() / 2;
     if pairs == 0 {
         return 0;
     }
-    match draw(seed, 8) {
+    match chance.draw(8) {
         0 => 2 * (pairs - 1),
         1 => 2 * pairs,
-        _ => 2 * draw(seed, pairs),
+        _ => 2 * chance.draw(pairs),
     }
 }
 
-fn path(rows: &[i32], m: usize, long: bool, seed: &mut usize) -> usize
-    requires rows_len { length rows.now ≡ all_rows }
-    requires m_le_room { m ≤ room }
-    ensures { result ≤ room }
-{
-    if long {
-        return long_path(rows, seed);
-    }
-    short_path(m, seed)
-}
-
-fn split(rows: &[i32], seed: &mut usize) -> Edit
-    requires { length rows.now ≡ all_rows }
-{
-    let d = district(rows, seed);
-    let n = test_rows::size(rows, d);
+fn split(rows: &Rows, chance: &mut Chance) -> Edit {
+    let d = district(rows, chance);
     Edit::Split {
         d,
-        i: index(n, seed),
-        j: index(n, seed),
+        i: index(rows, d, chance),
+        j: index(rows, d, chance),
     }
 }
 
 // Whether to found: half the time while there is no outline, and seldom later.
-fn founding(rows: &[i32], seed: &mut usize) -> bool
-    requires { length rows.now ≡ all_rows }
-{
-    if test_rows::size(rows, test_rows::OUTLINE) == 0 {
-        return draw(seed, 2) == 0;
+fn founding(rows: &Rows, chance: &mut Chance) -> bool {
+    if rows.outline.is_empty() {
+        return chance.draw(2) == 0;
     }
-    seldom(seed)
+    chance.seldom()
 }
 
 // The next change: the list has a ring of m numbers, and of ten changes so many are splits.
-pub fn next(rows: &[i32], m: usize, long: bool, splits: usize, seed: &mut usize) -> Asked
-    requires rows_len { length rows.now ≡ all_rows }
-    requires m_le_room { m ≤ room }
-    ensures { result.m ≤ room }
+pub fn next(rows: &Rows, m: usize, long: bool, splits: usize, chance: &mut Chance) -> Asked
+    requires { m ≤ room }
 {
-    if founding(rows, seed) {
+    if founding(rows, chance) {
         return Asked {
             edit: Edit::Found,
             m,
         };
     }
-    if draw(seed, 10) < splits {
+    if chance.draw(10) < splits {
         return Asked {
-            edit: split(rows, seed),
-            m: path(rows, m, long, seed),
+            edit: split(rows, chance),
+            m: if long {
+                long_path(rows, chance)
+            } else {
+                short_path(m, chance)
+            },
         };
     }
     Asked {
-        edit: matching::merge(rows, seed),
+        edit: matching::merge(rows, chance),
         m: 0,
     }
 }
 
 // A value in metres whose nearest millimetre is x, or seldom none that is a number.
-fn metres(x: i32, seed: &mut usize) -> f64 {
-    match draw(seed, 24) {
+fn metres(x: i32, chance: &mut Chance) -> f64 {
+    match chance.draw(24) {
         0 => 0.0 / 0.0,
         1 => -1.0 / 0.0,
         2..=8 => (x as f64 + 0.4) / MILLIMETRES,
@@ -184,10 +150,10 @@ fn metres(x: i32, seed: &mut usize) -> f64 {
 }
 
 // The position that a report at (x, y) is sent with.
-pub fn position(x: i32, y: i32, seed: &mut usize) -> Sent {
-    match draw(seed, 16) {
+pub fn position(x: i32, y: i32, chance: &mut Chance) -> Sent {
+    match chance.draw(16) {
         0 => Sent::Nothing,
         1..=8 => Sent::Point(x, y),
-        _ => Sent::Metres(metres(x, seed), metres(y, seed)),
+        _ => Sent::Metres(metres(x, chance), metres(y, chance)),
     }
 }

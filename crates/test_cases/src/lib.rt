@@ -1,4 +1,4 @@
-// What both implementations are asked, made from a seed: rings and points, and calls on a register. Proved safe and ending; it knows
+// What both implementations are asked, made by chance: rings and points, and calls on a register. Proved safe and ending; it knows
 // nothing of the library.
 
 #![tactic(auto)]
@@ -8,6 +8,7 @@ mod choosing;
 mod matching;
 mod rings;
 
+pub use chance::Chance;
 pub use choosing::{Asked, Edit, next, position};
 pub use rings::{Case, Kind, make};
 

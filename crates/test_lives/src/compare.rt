@@ -1,59 +1,40 @@
 // Whether both registers hold the same: every district's ring, vertex by vertex, the unused numbers, and the outline.
-ghost use Rattle.std.specs.Prelude.{◌≡◌, ◌<◌, ◌≤◌, length};
-ghost use Rattle.test_rows.specs.Shape.{all_rows, most_vertices};
+ghost use Rattle.std.specs.Prelude.{◌≡◌, ◌+◌, ◌<◌, ◌≤◌, length};
 
-// Whether the vertices in two columns are the first of row d.
-fn vertices_agree(xs: &[i32], ys: &[i32], rows: &[i32], d: usize) -> bool
-    requires rows_len { length rows.now ≡ all_rows }
-    requires xs_len { (length xs.now ≡ length ys.now) × (length xs.now ≤ most_vertices) }
+use districts::{Lists, Runs};
+use test_rows::{Row, Rows};
+
+// Whether the vertices of a row are those that stand in two columns from a place on.
+fn vertices_agree(xs: &[i32], ys: &[i32], place: usize, row: &Row) -> bool
+    requires { (place + row.now.size ≤ length xs.now) × (place + row.now.size ≤ length ys.now) }
 {
     let mut good = true;
-    let mut k = 0;
-    while k < xs.len() {
-        let x = test_rows::number_at(rows, d, 2 * k);
-        let y = test_rows::number_at(rows, d, 2 * k + 1);
-        good = good & (xs[k] == x) & (ys[k] == y);
-        k += 1;
+    for k in 0..row.size {
+        good &= row.vertex(k) == (xs[place + k], ys[place + k]);
     }
     good
 }
 
-// Whether a ring of n vertices that stands in two columns from a place on is that of row d.
-fn rings_agree(xs: &[i32], ys: &[i32], place: usize, n: usize, rows: &[i32], d: usize) -> bool
-    requires rows_len { length rows.now ≡ all_rows }
-    requires place_bound { (place < 4294967296) × (n < 4294967296) }
+// Whether a ring of n vertices that stands in two columns from a place on is that of a row.
+fn rings_agree(xs: &[i32], ys: &[i32], place: usize, n: usize, row: &Row) -> bool
+    requires { (place < 4294967296) × (n < 4294967296) }
 {
-    if n != test_rows::size(rows, d) {
+    if (n != row.size) | (xs.len().min(ys.len()) < place + n) {
         return false;
     }
-    let end = place + n;
-    if test_rows::least(xs.len(), ys.len()) < end {
-        return false;
-    }
-    vertices_agree(&xs[place..end], &ys[place..end], rows, d)
-}
-
-fn all_rings_agree(sx: &[i32], sy: &[i32], runs: &[u32], rows: &[i32]) -> bool
-    requires runs_len { length runs.now ≡ 129 }
-    requires rows_len { length rows.now ≡ all_rows }
-{
-    let mut good = true;
-    let mut d = 0;
-    while d < test_rows::NUMBERS {
-        let n = districts::size(runs, d);
-        good = good & rings_agree(sx, sy, districts::first_place(runs, d), n, rows, d);
-        d += 1;
-    }
-    good
+    vertices_agree(xs, ys, place, row)
 }
 
 // Whether the library's register is well-formed and both hold the same.
-pub fn agree(ox: &[i32], oy: &[i32], sx: &[i32], sy: &[i32], runs: &[u32], rows: &[i32]) -> bool
-    requires runs_len { length runs.now ≡ 129 }
-    requires rows_len { length rows.now ≡ all_rows }
+pub fn agree(lists: &Lists, rows: &Rows) -> bool
+    requires { length lists.now.runs.now ≡ 129 }
 {
-    let n = districts::outline_size(runs);
-    districts::well_formed(ox, oy, sx, sy, runs)
-        & rings_agree(ox, oy, 0, n, rows, test_rows::OUTLINE)
-        & all_rings_agree(sx, sy, runs, rows)
+    let runs = Runs { list: lists.runs };
+    let mut good = districts::well_formed(lists)
+        & rings_agree(lists.ox, lists.oy, 0, runs.outline_size(), &rows.outline);
+    for (d, row) in rows.districts.iter().enumerate() {
+        let place = runs.first_place(d);
+        good &= rings_agree(lists.sx, lists.sy, place, runs.size(d), row);
+    }
+    good
 }

@@ -4,12 +4,15 @@
 
 #![tactic(auto)]
 
-pub mod answer;
+mod answer;
 mod asking;
 mod compare;
 mod lives;
+mod registers;
 mod score;
 
-pub use asking::{converted, located, perform};
+pub use answer::{Answer, Both, Kind, Told};
+pub use asking::{converted, located};
 pub use lives::{Life, all};
-pub use score::{KINDS, Score};
+pub use registers::Registers;
+pub use score::{KINDS, REFUSALS, Score};

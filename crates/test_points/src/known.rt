@@ -1,274 +1,119 @@
 // The known points of the rules that concern locating, each printed as the picture, the point and the library's answer.
-use crate::{said, say};
+use crate::said::Said;
+use std::io;
 use std::io::Print;
 use test_lives::Score;
 
 const FAR: i32 = 1_000_000_000;
 
-// A picture by its name and corners, of which the first m numbers count.
+// A picture by its name and corners, and the points that are asked about.
 #[derive(Clone, Copy)]
 struct Picture {
-    name: [u8; 24],
-    corners: [i32; 16],
-    m: usize,
+    name: &'static str,
+    corners: &'static [i32],
+    points: &'static [(i32, i32)],
 }
-
-const PICTURED: usize = 13;
 
 // The last two are the pieces of the square when it is split from 0 to 1 with path (2,9).
-const PICTURES: [Picture; PICTURED] = [
+const PICTURES: [Picture; 13] = [
     Picture {
-        name: *b"square                  ",
-        corners: [0, 0, 4, 0, 4, 4, 0, 4, 0, 0, 0, 0, 0, 0, 0, 0],
-        m: 8,
+        name: "square",
+        corners: &[0, 0, 4, 0, 4, 4, 0, 4],
+        points: &[(2, 2), (5, 2), (4, 4), (4, 1), (0, 2)],
     },
     Picture {
-        name: *b"square backwards        ",
-        corners: [0, 4, 4, 4, 4, 0, 0, 0, 0, 0, 0, 0, 0, 0, 0, 0],
-        m: 8,
+        name: "square backwards",
+        corners: &[0, 4, 4, 4, 4, 0, 0, 0],
+        points: &[(2, 2)],
     },
     Picture {
-        name: *b"square twice over       ",
-        corners: [0, 0, 4, 0, 4, 4, 0, 4, 0, 0, 4, 0, 4, 4, 0, 4],
-        m: 16,
+        name: "square twice over",
+        corners: &[0, 0, 4, 0, 4, 4, 0, 4, 0, 0, 4, 0, 4, 4, 0, 4],
+        points: &[(2, 2), (4, 4), (0, 2)],
     },
     Picture {
-        name: *b"bow tie                 ",
-        corners: [0, 0, 4, 4, 4, 0, 0, 4, 0, 0, 0, 0, 0, 0, 0, 0],
-        m: 8,
+        name: "bow tie",
+        corners: &[0, 0, 4, 4, 4, 0, 0, 4],
+        points: &[(3, 2), (1, 2), (2, 2)],
     },
     Picture {
-        name: *b"one point three times   ",
-        corners: [1, 1, 1, 1, 1, 1, 0, 0, 0, 0, 0, 0, 0, 0, 0, 0],
-        m: 6,
+        name: "one point three times",
+        corners: &[1, 1, 1, 1, 1, 1],
+        points: &[(1, 1), (0, 0)],
     },
     Picture {
-        name: *b"there and half way back ",
-        corners: [0, 0, 4, 0, 2, 0, 0, 0, 0, 0, 0, 0, 0, 0, 0, 0],
-        m: 6,
+        name: "there and half way back",
+        corners: &[0, 0, 4, 0, 2, 0],
+        points: &[(3, 0)],
     },
     Picture {
-        name: *b"doubled corner          ",
-        corners: [0, 0, 4, 0, 4, 0, 4, 4, 0, 4, 0, 0, 0, 0, 0, 0],
-        m: 10,
+        name: "doubled corner",
+        corners: &[0, 0, 4, 0, 4, 0, 4, 4, 0, 4],
+        points: &[(4, 0)],
     },
     Picture {
-        name: *b"spike                   ",
-        corners: [0, 0, 4, 0, 7, 0, 4, 0, 4, 4, 0, 4, 0, 0, 0, 0],
-        m: 12,
+        name: "spike",
+        corners: &[0, 0, 4, 0, 7, 0, 4, 0, 4, 4, 0, 4],
+        points: &[(6, 0), (4, 0)],
     },
     Picture {
-        name: *b"half the grid           ",
-        corners: [
-            -FAR, -FAR, FAR, -FAR, FAR, FAR, 0, 0, 0, 0, 0, 0, 0, 0, 0, 0,
-        ],
-        m: 6,
+        name: "half the grid",
+        corners: &[-FAR, -FAR, FAR, -FAR, FAR, FAR],
+        points: &[(1, 0), (0, 1)],
     },
     Picture {
-        name: *b"coordinate 1000000001   ",
-        corners: [0, 0, 1_000_000_001, 0, 4, 4, 0, 0, 0, 0, 0, 0, 0, 0, 0, 0],
-        m: 6,
+        name: "coordinate 1000000001",
+        corners: &[0, 0, 1_000_000_001, 0, 4, 4],
+        points: &[(2, 2)],
     },
     Picture {
-        name: *b"two vertices            ",
-        corners: [0, 0, 4, 0, 0, 0, 0, 0, 0, 0, 0, 0, 0, 0, 0, 0],
-        m: 4,
+        name: "two vertices",
+        corners: &[0, 0, 4, 0],
+        points: &[(2, 2)],
     },
     Picture {
-        name: *b"piece one over the top  ",
-        corners: [0, 0, 4, 0, 2, 9, 0, 0, 0, 0, 0, 0, 0, 0, 0, 0],
-        m: 6,
+        name: "piece one over the top",
+        corners: &[0, 0, 4, 0, 2, 9],
+        points: &[(2, 6)],
     },
     Picture {
-        name: *b"piece two over the top  ",
-        corners: [4, 0, 4, 4, 0, 4, 0, 0, 2, 9, 0, 0, 0, 0, 0, 0],
-        m: 10,
+        name: "piece two over the top",
+        corners: &[4, 0, 4, 4, 0, 4, 0, 0, 2, 9],
+        points: &[(2, 6)],
     },
 ];
 
-// A picture's number and a point.
-#[derive(Clone, Copy)]
-struct Known {
-    picture: usize,
-    x: i32,
-    y: i32,
-}
-
-const KNOWN: usize = 24;
-
-const POINTS: [Known; KNOWN] = [
-    Known {
-        picture: 0,
-        x: 2,
-        y: 2,
-    },
-    Known {
-        picture: 0,
-        x: 5,
-        y: 2,
-    },
-    Known {
-        picture: 0,
-        x: 4,
-        y: 4,
-    },
-    Known {
-        picture: 0,
-        x: 4,
-        y: 1,
-    },
-    Known {
-        picture: 0,
-        x: 0,
-        y: 2,
-    },
-    Known {
-        picture: 1,
-        x: 2,
-        y: 2,
-    },
-    Known {
-        picture: 2,
-        x: 2,
-        y: 2,
-    },
-    Known {
-        picture: 2,
-        x: 4,
-        y: 4,
-    },
-    Known {
-        picture: 2,
-        x: 0,
-        y: 2,
-    },
-    Known {
-        picture: 3,
-        x: 3,
-        y: 2,
-    },
-    Known {
-        picture: 3,
-        x: 1,
-        y: 2,
-    },
-    Known {
-        picture: 3,
-        x: 2,
-        y: 2,
-    },
-    Known {
-        picture: 4,
-        x: 1,
-        y: 1,
-    },
-    Known {
-        picture: 4,
-        x: 0,
-        y: 0,
-    },
-    Known {
-        picture: 5,
-        x: 3,
-        y: 0,
-    },
-    Known {
-        picture: 6,
-        x: 4,
-        y: 0,
-    },
-    Known {
-        picture: 7,
-        x: 6,
-        y: 0,
-    },
-    Known {
-        picture: 7,
-        x: 4,
-        y: 0,
-    },
-    Known {
-        picture: 8,
-        x: 1,
-        y: 0,
-    },
-    Known {
-        picture: 8,
-        x: 0,
-        y: 1,
-    },
-    Known {
-        picture: 9,
-        x: 2,
-        y: 2,
-    },
-    Known {
-        picture: 10,
-        x: 2,
-        y: 2,
-    },
-    Known {
-        picture: 11,
-        x: 2,
-        y: 6,
-    },
-    Known {
-        picture: 12,
-        x: 2,
-        y: 6,
-    },
-];
-
-// Asks about the first m numbers of a list as a ring.
-fn ask<R: Print>(rt: &R, list: &[i32], m: usize, p: Known, score: Score) -> Score {
-    if list.len() < m {
-        return score;
+impl Picture {
+    fn ask(&self, rt: &impl Print, all: &mut Score) -> io::Result<()> {
+        for (x, y) in self.points {
+            let both = test_lives::located(self.corners, *x, *y);
+            println!(rt; "{:<24} ({x},{y}): {}", self.name, Said(both))?;
+            all.add(both);
+        }
+        Ok(())
     }
-    let both = test_lives::located(&list[0..m], p.x, p.y);
-    say::signed(rt, b" (", p.x);
-    say::signed(rt, b",", p.y);
-    say::text(rt, b"): ");
-    said::both(rt, both);
-    score.with(both)
 }
 
-fn named<R: Print>(
-    rt: &R,
-    name: &[u8; 24],
-    corners: &[i32; 16],
-    m: usize,
-    p: Known,
-    score: Score,
-) -> Score {
-    say::text(rt, name);
-    ask(rt, corners, m, p, score)
-}
-
-fn pictured<R: Print>(rt: &R, p: Known, score: Score) -> Score {
-    let which = p.picture;
-    if PICTURED <= which {
-        return score;
+pub fn points(rt: &impl Print, all: &mut Score) -> io::Result<()> {
+    for picture in &PICTURES {
+        picture.ask(rt, all)?;
     }
-    let picture = PICTURES[which];
-    let name = picture.name;
-    let corners = picture.corners;
-    named(rt, &name, &corners, picture.m, p, score)
+    Ok(())
 }
 
-pub fn all<R: Print>(rt: &R) -> Score {
-    let mut score = Score::new();
-    let mut k = 0;
-    while k < KNOWN {
-        score = pictured(rt, POINTS[k], score);
-        k += 1;
+// The longest ring, which is one place over and over, at that place and beside it; and one vertex more.
+pub fn longest(rt: &impl Print, all: &mut Score) -> io::Result<()> {
+    let list = [0i32; 4098];
+    for (n, x) in [(2048, 0), (2048, 2), (2049, 2)] {
+        let both = test_lives::located(&list[..2 * n], x, x);
+        println!(rt; "{n} vertices            ({x},{x}): {}", Said(both))?;
+        all.add(both);
     }
-    score
+    Ok(())
 }
 
 // At the grid's limit, beyond it by a millimetre and by a little less than half of one; and two halves.
-const VALUES: usize = 8;
-
-const METRES: [f64; VALUES] = [
+const METRES: [f64; 8] = [
     1000000.0,
     -1000000.0,
     1000000.001,
@@ -279,37 +124,11 @@ const METRES: [f64; VALUES] = [
     0.1875,
 ];
 
-pub fn lengths<R: Print>(rt: &R, start: Score) -> Score {
-    let mut score = start;
-    let mut k = 0;
-    while k < VALUES {
-        let both = test_lives::converted(METRES[k]);
-        say::counted(rt, b"metres, value ", k);
-        say::text(rt, b": ");
-        said::both(rt, both);
-        score = score.with(both);
-        k += 1;
+pub fn lengths(rt: &impl Print, all: &mut Score) -> io::Result<()> {
+    for (k, metres) in METRES.iter().enumerate() {
+        let both = test_lives::converted(*metres);
+        println!(rt; "metres, value {k}: {}", Said(both))?;
+        all.add(both);
     }
-    score
-}
-
-// The longest ring, which is one place over and over, at that place and beside it; and one vertex more.
-pub fn longest<R: Print>(rt: &R, score: Score) -> Score {
-    let at = Known {
-        picture: 0,
-        x: 0,
-        y: 0,
-    };
-    let beside = Known {
-        picture: 0,
-        x: 2,
-        y: 2,
-    };
-    let list = [0i32; 4098];
-    say::text(rt, b"2048 vertices           ");
-    let one = ask(rt, &list, 4096, at, score);
-    say::text(rt, b"2048 vertices           ");
-    let two = ask(rt, &list, 4096, beside, one);
-    say::text(rt, b"2049 vertices           ");
-    ask(rt, &list, 4098, beside, two)
+    Ok(())
 }

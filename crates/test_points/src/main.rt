@@ -9,13 +9,10 @@
 mod edits;
 mod known;
 mod said;
-mod say;
 
-ghost use Rattle.std.specs.Prelude.{◌≡◌, length};
-ghost use Rattle.test_cases.specs.Room.{room};
-
+use std::io;
 use std::io::Print;
-use test_cases::Kind;
+use test_cases::{Chance, Kind, ROOM};
 use test_lives::{Life, Score};
 
 const SEED: usize = 20_011_120;
@@ -23,7 +20,7 @@ const SEED: usize = 20_011_120;
 // Rings of one kind, and how many.
 #[derive(Clone, Copy)]
 struct Rings {
-    name: [u8; 30],
+    name: &'static str,
     what: Kind,
     times: usize,
 }
@@ -32,32 +29,32 @@ const KINDS: usize = 6;
 
 const RINGS: [Rings; KINDS] = [
     Rings {
-        name: *b"small grids                   ",
+        name: "small grids",
         what: Kind::SmallGrid,
         times: 200_000,
     },
     Rings {
-        name: *b"doubled rings                 ",
+        name: "doubled rings",
         what: Kind::Doubled,
         times: 100_000,
     },
     Rings {
-        name: *b"spiked rings                  ",
+        name: "spiked rings",
         what: Kind::Spiked,
         times: 100_000,
     },
     Rings {
-        name: *b"rings at the grid's limits    ",
+        name: "rings at the grid's limits",
         what: Kind::Limits,
         times: 200_000,
     },
     Rings {
-        name: *b"long rings                    ",
+        name: "long rings",
         what: Kind::Long,
         times: 1_000,
     },
     Rings {
-        name: *b"lists to be refused           ",
+        name: "lists to be refused",
         what: Kind::Broken,
         times: 100_000,
     },
@@ -66,7 +63,7 @@ const RINGS: [Rings; KINDS] = [
 // Registers that live so, and how many.
 #[derive(Clone, Copy)]
 struct Lives {
-    name: [u8; 30],
+    name: &'static str,
     life: Life,
     times: usize,
 }
@@ -76,7 +73,7 @@ const SORTS: usize = 7;
 // The last two live so long that all numbers are in use, or have paths so long that the store is full.
 const LIVES: [Lives; SORTS] = [
     Lives {
-        name: *b"registers of small grids      ",
+        name: "registers of small grids",
         life: Life {
             what: Kind::SmallGrid,
             long: false,
@@ -85,7 +82,7 @@ const LIVES: [Lives; SORTS] = [
         times: 600,
     },
     Lives {
-        name: *b"registers of doubled rings    ",
+        name: "registers of doubled rings",
         life: Life {
             what: Kind::Doubled,
             long: false,
@@ -94,7 +91,7 @@ const LIVES: [Lives; SORTS] = [
         times: 200,
     },
     Lives {
-        name: *b"registers of spiked rings     ",
+        name: "registers of spiked rings",
         life: Life {
             what: Kind::Spiked,
             long: false,
@@ -103,7 +100,7 @@ const LIVES: [Lives; SORTS] = [
         times: 200,
     },
     Lives {
-        name: *b"registers at the grid's limits",
+        name: "registers at the grid's limits",
         life: Life {
             what: Kind::Limits,
             long: false,
@@ -112,7 +109,7 @@ const LIVES: [Lives; SORTS] = [
         times: 600,
     },
     Lives {
-        name: *b"registers to be refused       ",
+        name: "registers to be refused",
         life: Life {
             what: Kind::Broken,
             long: false,
@@ -121,7 +118,7 @@ const LIVES: [Lives; SORTS] = [
         times: 200,
     },
     Lives {
-        name: *b"registers up to 64 districts  ",
+        name: "registers up to 64 districts",
         life: Life {
             what: Kind::SmallGrid,
             long: false,
@@ -130,7 +127,7 @@ const LIVES: [Lives; SORTS] = [
         times: 12,
     },
     Lives {
-        name: *b"registers up to a full store  ",
+        name: "registers up to a full store",
         life: Life {
             what: Kind::Long,
             long: true,
@@ -140,73 +137,52 @@ const LIVES: [Lives; SORTS] = [
     },
 ];
 
+// Whether it could be written is not asked.
 fn main(rt: HostRuntime) {
-    let mut seed = SEED;
-    let points = known::lengths(&rt, known::longest(&rt, known::all(&rt)));
-    let made = made_rings(&rt, points, &mut seed);
-    let all = made_lives(&rt, edits::all(&rt, made), &mut seed);
-    say::counted(&rt, b"asked ", all.asked);
-    say::counted(&rt, b" differ ", all.differ);
-    say::counted(&rt, b" digest ", all.digest);
-    say::text(&rt, b"\n");
+    let _ = run(&rt);
 }
 
-// Prints what came of something, and adds that to all.
-fn added<R: Print>(rt: &R, name: &[u8; 30], score: Score, all: Score) -> Score {
-    said::score(rt, name, score);
-    all.plus(score)
+fn run(rt: &impl Print) -> io::Result<()> {
+    let mut chance = Chance { seed: SEED };
+    let mut all = Score::new();
+    known::points(rt, &mut all)?;
+    known::longest(rt, &mut all)?;
+    known::lengths(rt, &mut all)?;
+    made_rings(rt, &mut chance, &mut all)?;
+    edits::all(rt, &mut all)?;
+    made_lives(rt, &mut chance, &mut all)?;
+    println!(rt;
+        "asked {} differ {} digest {}",
+        all.asked, all.differ, all.digest
+    )
 }
 
-fn made_rings<R: Print>(rt: &R, start: Score, seed: &mut usize) -> Score {
-    let mut all = start;
-    let mut k = 0;
-    while k < KINDS {
-        all = kind(rt, RINGS[k], all, seed);
-        k += 1;
+fn made_rings(rt: &impl Print, chance: &mut Chance, all: &mut Score) -> io::Result<()> {
+    for rings in &RINGS {
+        let score = rings.located(chance);
+        said::score(rt, rings.name, &score)?;
+        all.plus(&score);
     }
-    all
+    Ok(())
 }
 
-// Asks about the rings of one kind.
-fn kind<R: Print>(rt: &R, rings: Rings, all: Score, seed: &mut usize) -> Score {
-    let mut space = [0i32; test_cases::ROOM];
-    let name = rings.name;
-    let what = rings.what;
-    added(rt, &name, many(what, rings.times, &mut space, seed), all)
-}
-
-fn many(what: Kind, times: usize, list: &mut [i32], seed: &mut usize) -> Score
-    requires { length list.old ≡ room }
-{
-    let mut score = Score::new();
-    let mut k = 0;
-    while k < times {
-        score = one(what, list, seed, score);
-        k += 1;
+impl Rings {
+    fn located(&self, chance: &mut Chance) -> Score {
+        let mut space = [0i32; ROOM];
+        let mut score = Score::new();
+        for _ in 0..self.times {
+            let case = test_cases::make(self.what, &mut space, chance);
+            score.add(test_lives::located(&space[..case.m], case.x, case.y));
+        }
+        score
     }
-    score
 }
 
-fn one(what: Kind, list: &mut [i32], seed: &mut usize, score: Score) -> Score
-    requires { length list.old ≡ room }
-{
-    let case = test_cases::make(what, list, seed);
-    let m = case.m;
-    score.with(test_lives::located(&list[0..m], case.x, case.y))
-}
-
-fn made_lives<R: Print>(rt: &R, start: Score, seed: &mut usize) -> Score {
-    let mut all = start;
-    let mut k = 0;
-    while k < SORTS {
-        all = lived(rt, LIVES[k], all, seed);
-        k += 1;
+fn made_lives(rt: &impl Print, chance: &mut Chance, all: &mut Score) -> io::Result<()> {
+    for lives in &LIVES {
+        let score = test_lives::all(&lives.life, lives.times, chance);
+        said::score(rt, lives.name, &score)?;
+        all.plus(&score);
     }
-    all
-}
-
-fn lived<R: Print>(rt: &R, lives: Lives, all: Score, seed: &mut usize) -> Score {
-    let name = lives.name;
-    let life = lives.life;
-    added(rt, &name, test_lives::all(life, lives.times, seed), all)
+    Ok(())
 }

@@ -1,135 +1,115 @@
 // How answers and scores are printed.
-use crate::say;
-use crate::say::{counted, text};
 use std::io::Print;
-use test_lives::answer::{Answer, Both};
-use test_lives::{KINDS, Score, answer};
-
-fn off<R: Print>(rt: &R, a: Answer) {
-    let turned = a.more;
-    if turned < answer::CLOCKWISE_EVEN {
-        counted(rt, b"off ", a.number);
-    } else {
-        counted(rt, b"off -", a.number);
-    }
-    if turned % 2 == answer::ODD {
-        text(rt, b" odd");
-    } else {
-        text(rt, b" even");
-    }
-}
-
-// The lowest index and the highest, after the word for what has them.
-fn indices<R: Print>(rt: &R, word: &[u8], a: Answer) {
-    counted(rt, word, a.lowest);
-    counted(rt, b" ", a.highest);
-}
-
-fn border<R: Print>(rt: &R, word: &[u8], a: Answer) {
-    counted(rt, b"border ", a.number);
-    indices(rt, word, a);
-}
-
-fn several<R: Print>(rt: &R, a: Answer) {
-    counted(rt, b"several ", a.number);
-    counted(rt, b" ", a.more);
-}
-
-fn placed<R: Print>(rt: &R, a: Answer) {
-    if a.more == 0 {
-        counted(rt, b"millimetre ", a.number);
-    } else {
-        counted(rt, b"millimetre -", a.number);
-    }
-}
-
-fn told<R: Print>(rt: &R, a: Answer) {
-    let what = a.what;
-    match what {
-        answer::VERTEX | answer::VERTICES => indices(rt, b"vertex ", a),
-        answer::EDGE | answer::EDGES => indices(rt, b"edge ", a),
-        answer::FOUNDED => text(rt, b"ok"),
-        answer::SPLIT | answer::MERGED => counted(rt, b"ok ", a.number),
-        answer::BORDER_VERTEX | answer::BORDER_VERTICES => border(rt, b" vertex ", a),
-        answer::BORDER_EDGE | answer::BORDER_EDGES => border(rt, b" edge ", a),
-        answer::ONE => counted(rt, b"one ", a.number),
-        answer::NONE => text(rt, b"none"),
-        answer::PLACED => placed(rt, a),
-        answer::SEVERAL => several(rt, a),
-        answer::REFUSED => counted(rt, b"refused ", a.number),
-        _ => off(rt, a),
-    }
-}
+use std::{fmt, io};
+use test_lives::{Answer, Both, KINDS, Score, Told};
+use test_rows::Belongs;
+use test_second::{Met, Where};
 
 // The library's answer, and that of the second implementation where they differ in anything.
-pub fn both<R: Print>(rt: &R, b: Both) {
-    told(rt, b.library);
-    if !b.same() {
-        text(rt, b" BUT the second says ");
-        told(rt, b.second);
-    }
-    text(rt, b"\n");
-}
+#[derive(Clone, Copy)]
+pub struct Said(pub Both);
 
-// What answers are called when they are counted, up to refusals, and how long each name is.
-const NAMES: [[u8; 18]; answer::REFUSED] = [
-    *b", vertex          ",
-    *b", vertices        ",
-    *b", edge            ",
-    *b", edges           ",
-    *b", off 0:          ",
-    *b", off +-1:        ",
-    *b", off beyond:     ",
-    *b", founded         ",
-    *b", splits          ",
-    *b", merges          ",
-    *b", border vertex   ",
-    *b", border vertices ",
-    *b", border edge     ",
-    *b", border edges    ",
-    *b", one             ",
-    *b", none            ",
-    *b", several         ",
-    *b", placed          ",
-];
-
-const LENGTHS: [usize; answer::REFUSED] = [
-    9, 11, 7, 8, 9, 11, 14, 10, 9, 9, 16, 18, 14, 15, 6, 7, 10, 9,
-];
-
-fn named<R: Print>(rt: &R, name: &[u8; 18], m: usize, n: usize) {
-    say::first(rt, name, m);
-    counted(rt, b"", n);
-}
-
-// How often one kind of answer came.
-fn count<R: Print>(rt: &R, kind: usize, n: usize) {
-    if kind < answer::REFUSED {
-        let m = LENGTHS[kind];
-        let name = NAMES[kind];
-        named(rt, &name, m, n);
-    } else {
-        counted(rt, b", refused ", kind - answer::REFUSED);
-        counted(rt, b": ", n);
-    }
-}
-
-fn counts<R: Print>(rt: &R, s: Score) {
-    let counts = s.counts;
-    let mut kind = 0;
-    while kind < KINDS {
-        let n = counts[kind];
-        if 0 < n {
-            count(rt, kind, n);
+impl fmt::Display for Said {
+    fn fmt<W: fmt::Write>(&self, f: &mut fmt::Formatter<W>) -> fmt::Result {
+        answer(f, self.0.library)?;
+        if !self.0.same() {
+            f.write_str(" BUT the second says ")?;
+            answer(f, self.0.second)?;
         }
-        kind += 1;
+        Ok(())
     }
 }
 
-pub fn score<R: Print>(rt: &R, name: &[u8], s: Score) {
-    text(rt, name);
-    counted(rt, b" asked ", s.asked);
-    counts(rt, s);
-    counted(rt, b", differ ", s.differ);
-    text(rt, b"\n");
+fn answer<W: fmt::Write>(f: &mut fmt::Formatter<W>, a: Answer) -> fmt::Result {
+    match a {
+        Ok(t) => told(f, t),
+        Err(refusal) => write!(f, "refused {refusal}"),
+    }
+}
+
+fn told<W: fmt::Write>(f: &mut fmt::Formatter<W>, t: Told) -> fmt::Result {
+    match t {
+        Told::Located { place, odd } => located(f, place, odd),
+        Told::Placed(x) => write!(f, "millimetre {x}"),
+        Told::Founded => f.write_str("ok"),
+        Told::Split(d) | Told::Merged(d) => write!(f, "ok {d}"),
+        Told::Sorted { belongs, .. } => sorted(f, belongs),
+    }
+}
+
+fn located<W: fmt::Write>(f: &mut fmt::Formatter<W>, place: Where, odd: bool) -> fmt::Result {
+    match place {
+        Where::On(met) => on_ring(f, met),
+        Where::Away { times, backwards } => {
+            let sign = if backwards { "-" } else { "" };
+            let parity = if odd { "odd" } else { "even" };
+            write!(f, "off {sign}{times} {parity}")
+        }
+    }
+}
+
+fn sorted<W: fmt::Write>(f: &mut fmt::Formatter<W>, belongs: Belongs) -> fmt::Result {
+    match belongs {
+        Belongs::Border(d, met) => {
+            write!(f, "border {d} ")?;
+            on_ring(f, met)
+        }
+        Belongs::One(d) => write!(f, "one {d}"),
+        Belongs::None => f.write_str("none"),
+        Belongs::Several(d, many) => write!(f, "several {d} {many}"),
+    }
+}
+
+fn on_ring<W: fmt::Write>(f: &mut fmt::Formatter<W>, met: Met) -> fmt::Result {
+    match met {
+        Met::Corners(lowest, highest) => write!(f, "vertex {lowest} {highest}"),
+        Met::Sides(lowest, highest) => write!(f, "edge {lowest} {highest}"),
+    }
+}
+
+// What answers are called when they are counted.
+const NAMES: [&str; KINDS] = [
+    "vertex",
+    "vertices",
+    "edge",
+    "edges",
+    "off 0:",
+    "off +-1:",
+    "off beyond:",
+    "founded",
+    "splits",
+    "merges",
+    "border vertex",
+    "border vertices",
+    "border edge",
+    "border edges",
+    "one",
+    "none",
+    "several",
+    "placed",
+];
+
+fn kinds(rt: &impl Print, counts: &[usize; KINDS]) -> io::Result<()> {
+    for (name, n) in NAMES.iter().zip(counts) {
+        if 0 < *n {
+            print!(rt; ", {name} {n}")?;
+        }
+    }
+    Ok(())
+}
+
+fn refusals(rt: &impl Print, counts: &[usize]) -> io::Result<()> {
+    for (number, n) in counts.iter().enumerate() {
+        if 0 < *n {
+            print!(rt; ", refused {number}: {n}")?;
+        }
+    }
+    Ok(())
+}
+
+pub fn score(rt: &impl Print, name: &str, s: &Score) -> io::Result<()> {
+    print!(rt; "{name:<30} asked {}", s.asked)?;
+    kinds(rt, &s.kinds)?;
+    refusals(rt, &s.refusals)?;
+    println!(rt; ", differ {}", s.differ)
 }

@@ -8,21 +8,14 @@
 mod metres;
 mod plane;
 
-pub use metres::{Length, millimetres};
-use plane::Spot;
-// How far a number is from zero; here for whoever prints one, or keeps a count among signed numbers.
-ghost use Rattle.std.specs.Prelude.{◌+◌, ◌≤◌, length};
-ghost use Rattle.test_second.specs.Near.{Near};
+ghost use Rattle.std.specs.Prelude.{ℕ, ◌<◌};
 
-pub use plane::size;
+pub use metres::millimetres;
+use plane::{Ring, Spot};
 
 const FEWEST_VERTICES: usize = 3;
 
 const MOST_VERTICES: usize = 2048;
-
-const NO_RING: u32 = 4;
-
-const BEYOND_GRID: u32 = 5;
 
 // The middle of the grid, and its least corner for the point that is the middle: an origin must differ from the point.
 const ORIGIN: Spot = Spot {
@@ -32,15 +25,34 @@ const ORIGIN: Spot = Spot {
 
 const OTHER_ORIGIN: Spot = Spot { x: 0, y: 0 };
 
-#[derive(Clone, Copy)]
+// The lowest and the highest index of the corners that are a point, or of the sides that hold it.
+#[derive(Clone, Copy, PartialEq, Eq)]
+pub enum Met {
+    Corners(usize, usize),
+    Sides(usize, usize),
+}
+
+#[derive(Clone, Copy, PartialEq, Eq)]
 pub enum Where {
-    // The lowest and the highest index of the corners that are the point, or of the sides that hold it.
-    Corner(usize, usize),
-    Side(usize, usize),
+    On(Met),
     // How many times the ring goes round the point, and whether it does so clockwise.
     Away { times: u32, backwards: bool },
-    // 4: no ring; 5: a coordinate beyond the grid.
-    Refused(u32),
+}
+
+// Why there is no answer, by the refusal's number.
+#[derive(Clone, Copy, PartialEq, Eq)]
+pub enum Refused {
+    NoRing = 4,
+    // A coordinate beyond the grid, or, for metres, millimetres beyond it once rounded.
+    BeyondGrid = 5,
+    // A NaN or an infinity.
+    NotFinite = 18,
+}
+
+impl Refused {
+    pub fn number(self) -> usize {
+        self as usize
+    }
 }
 
 // How often the ring goes round a point, in half turns, by direction.
@@ -51,142 +63,61 @@ struct HalfTurns {
 }
 
 // Where (x, y) lies against the ring x0, y0, x1, y1, .. Corners come before sides: where one is the point no side is named.
-pub fn locate(ring: &[i32], x: i32, y: i32) -> Where {
+pub fn locate(ring: &[i32], x: i32, y: i32) -> Result<Where, Refused> {
     let n = ring.len() / 2;
-    if (ring.len() % 2 == 1) | (n < FEWEST_VERTICES) {
-        return Where::Refused(NO_RING);
+    if (ring.len() % 2 == 1) | (n < FEWEST_VERTICES) | (MOST_VERTICES < n) {
+        return Err(Refused::NoRing);
     }
-    if MOST_VERTICES < n {
-        return Where::Refused(NO_RING);
+    if !(ring.iter().all(|z| plane::on_grid(*z)) & plane::on_grid(x) & plane::on_grid(y)) {
+        return Err(Refused::BeyondGrid);
     }
-    if !(all_on_grid(ring) & plane::on_grid(x) & plane::on_grid(y)) {
-        return Where::Refused(BEYOND_GRID);
-    }
-    against(ring, n, plane::spot_at(x, y))
+    Ok(against(&Ring { numbers: ring, n }, Spot::at(x, y)))
 }
 
-fn all_on_grid(list: &[i32]) -> bool {
-    let mut i = 0;
-    while i < list.len() {
-        if !plane::on_grid(list[i]) {
-            return false;
-        }
-        i += 1;
+fn against(ring: &Ring, r: Spot) -> Where {
+    if let Some((lowest, highest)) = span(ring.n, |i| ring.corner(i) == r) {
+        return Where::On(Met::Corners(lowest, highest));
     }
-    true
+    if let Some((lowest, highest)) = span(ring.n, |i| ring.side(i).holds(r)) {
+        return Where::On(Met::Sides(lowest, highest));
+    }
+    turns(scores(ring, r))
 }
 
-fn against(ring: &[i32], n: usize, r: Spot) -> Where
-    requires n_in_bounds { n + n ≤ length ring.now }
-    requires n_bound { n ≤ 2048 }
-    requires near { Near r }
+// The lowest and the highest index below n that is met. One loop for both: what a closure asks over a range from its end is not proved yet.
+fn span<F: Fn(usize) -> bool>(n: usize, is_met: F) -> Option<(usize, usize)>
+    requires { (i : ℕ) → i < n → F.pre is_met i }
 {
-    let corner = first_corner(ring, n, r);
-    if corner < n {
-        return Where::Corner(corner, last_corner(ring, n, r));
-    }
-    let side = first_side(ring, n, r);
-    if side < n {
-        return Where::Side(side, last_side(ring, n, r));
-    }
-    turns(scores(ring, n, r))
-}
-
-// The lowest vertex that is r, or n if none is.
-fn first_corner(ring: &[i32], n: usize, r: Spot) -> usize
-    requires { n + n ≤ length ring.now }
-{
-    let mut i = 0;
-    while i < n {
-        if plane::same(plane::vertex(ring, i), r) {
-            return i;
-        }
-        i += 1;
-    }
-    n
-}
-
-// The highest vertex that is r, looked for from the end, or n if none is.
-fn last_corner(ring: &[i32], n: usize, r: Spot) -> usize
-    requires { n + n ≤ length ring.now }
-{
-    let mut i = n;
-    while 0 < i {
-        i -= 1;
-        if plane::same(plane::vertex(ring, i), r) {
-            return i;
+    let mut met = None;
+    for i in 0..n {
+        if is_met(i) {
+            let (lowest, _) = met.unwrap_or((i, i));
+            met = Some((lowest, i));
         }
     }
-    n
+    met
 }
 
-// The lowest edge that holds r, or n if none does.
-fn first_side(ring: &[i32], n: usize, r: Spot) -> usize
-    requires n_in_bounds { n + n ≤ length ring.now }
-    requires near { Near r }
-{
-    let mut i = 0;
-    while i < n {
-        if plane::on_segment(plane::edge_at(ring, n, i), r) {
-            return i;
-        }
-        i += 1;
-    }
-    n
-}
-
-// The highest edge that holds r, looked for from the end, or n if none does.
-fn last_side(ring: &[i32], n: usize, r: Spot) -> usize
-    requires n_in_bounds { n + n ≤ length ring.now }
-    requires near { Near r }
-{
-    let mut i = n;
-    while 0 < i {
-        i -= 1;
-        if plane::on_segment(plane::edge_at(ring, n, i), r) {
-            return i;
-        }
-    }
-    n
-}
-
-fn origin_for(r: Spot) -> Spot
-    ensures { Near result }
-{
-    if plane::same(r, ORIGIN) {
-        return OTHER_ORIGIN;
-    }
-    ORIGIN
+fn origin_for(r: Spot) -> Spot {
+    if r == ORIGIN { OTHER_ORIGIN } else { ORIGIN }
 }
 
 // The scores of all triangles from the origin. A clockwise triangle is its own mirror's counterclockwise one.
-fn scores(ring: &[i32], n: usize, r: Spot) -> HalfTurns
-    requires n_in_bounds { n + n ≤ length ring.now }
-    requires n_bound { n ≤ 2048 }
-    requires near { Near r }
-{
+fn scores(ring: &Ring, r: Spot) -> HalfTurns {
     let o = origin_for(r);
     let mut forward = 0;
     let mut backward = 0;
-    let mut i = 0;
-    while i < n {
-        let e = plane::edge_at(ring, n, i);
+    for i in 0..ring.n {
+        let e = ring.side(i);
         forward += plane::score(o, e.from, e.to, r);
         backward += plane::score(o, e.to, e.from, r);
-        i += 1;
     }
     HalfTurns { forward, backward }
 }
 
 fn turns(s: HalfTurns) -> Where {
-    if s.forward < s.backward {
-        return Where::Away {
-            times: (s.backward - s.forward) / 2,
-            backwards: true,
-        };
-    }
     Where::Away {
-        times: (s.forward - s.backward) / 2,
-        backwards: false,
+        times: s.forward.abs_diff(s.backward) / 2,
+        backwards: s.forward < s.backward,
     }
 }

@@ -1,12 +1,11 @@
 // A value in metres as whole millimetres, found a second way: 1,000 is 125 doubled three times, and what is left of the power of two is
 // halved away bit by bit, the last bit that falls and whether one fell before it telling how to round.
+use crate::Refused;
 
-// How many fractions a double has, 2^52, and how many exponents; the last of them is that of infinities and NaNs.
+// How many fractions a double has, 2^52, and how many exponents.
 const FRACTIONS: u64 = 4_503_599_627_370_496;
 
 const EXPONENTS: u64 = 2048;
-
-const LAST_EXPONENT: u64 = 2047;
 
 // With this exponent 125 significands are the millimetres; each lower one halves them.
 const WHOLE: u64 = 1072;
@@ -14,27 +13,6 @@ const WHOLE: u64 = 1072;
 const MANY: u64 = 125;
 
 const LIMIT: u64 = 1_000_000_000;
-
-#[derive(Clone, Copy)]
-pub struct Length {
-    // Not a NaN and not an infinity.
-    pub number: bool,
-    // Beyond the grid, once rounded; 0 stands for its millimetres then.
-    pub far: bool,
-    pub millimetres: i32,
-}
-
-const NO_NUMBER: Length = Length {
-    number: false,
-    far: false,
-    millimetres: 0,
-};
-
-const FAR: Length = Length {
-    number: true,
-    far: true,
-    millimetres: 0,
-};
 
 // A number that was halved: what is left, the bit that fell last, and whether one fell before it.
 #[derive(Clone, Copy)]
@@ -56,7 +34,7 @@ impl Halved {
     // To the nearest, halves to even; it wraps, so that nothing has to be known of what is left.
     fn rounded(self) -> u64 {
         if self.half & (self.more | (self.left % 2 == 1)) {
-            return std::num::wrapping_add_u64(self.left, 1);
+            return self.left.wrapping_add(1);
         }
         self.left
     }
@@ -68,24 +46,18 @@ fn shortened(n: u64, times: u64) -> Halved {
         half: false,
         more: false,
     };
-    let mut k = 0;
-    while k < times {
+    for _ in 0..times {
         h = h.once();
-        k += 1;
     }
     h
 }
 
-fn signed(size: u64, negative: bool) -> Length {
+fn signed(size: u64, negative: bool) -> Result<i32, Refused> {
     if LIMIT < size {
-        return FAR;
+        return Err(Refused::BeyondGrid);
     }
     let m = size as i32;
-    Length {
-        number: true,
-        far: false,
-        millimetres: if negative { 0 - m } else { m },
-    }
+    Ok(if negative { -m } else { m })
 }
 
 // The size of a value by its exponent and fraction.
@@ -100,14 +72,10 @@ fn size_of(exponent: u64, fraction: u64) -> u64 {
     shortened(MANY * (FRACTIONS + f), WHOLE - exponent).rounded()
 }
 
-pub fn millimetres(metres: f64) -> Length {
-    if metres != metres {
-        return NO_NUMBER;
+pub fn millimetres(metres: f64) -> Result<i32, Refused> {
+    if !metres.is_finite() {
+        return Err(Refused::NotFinite);
     }
-    let bits = f64::to_bits(metres);
-    let exponent = bits / FRACTIONS % EXPONENTS;
-    if exponent == LAST_EXPONENT {
-        return NO_NUMBER;
-    }
-    signed(size_of(exponent, bits), metres < 0.0)
+    let bits = metres.to_bits();
+    signed(size_of(bits / FRACTIONS % EXPONENTS, bits), metres < 0.0)
 }

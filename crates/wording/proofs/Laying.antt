@@ -1,34 +1,13 @@
--- Texts laid over a lent list: element by element, and one behind the other. Assumes nothing.
-use Prim.Native.Nat.{ℕ, ◌+◌, ◌≤◌, ◌<◌}
-use native.Mathlib.Numerals.{add-one}
+-- Texts laid over a lent list, one behind the other. Assumes nothing.
+use Prim.Native.Nat.{ℕ, ◌+◌, ◌≤◌}
 use native.Mathlib.Omega.{arith}
-use mathlib.Core.Path.{◌≡◌, refl, sym, ap, ◌∙◌}
+use mathlib.Core.Path.{◌≡◌, sym, ap, ◌∙◌}
 use mathlib.Core.List.{List, ◌++◌, append_assoc}
-use lib.ListN.{length, get_or, take, drop, set, length-set, length-append}
-use lib.Seq.{drop-drop, drop_at, take_at, take-length, length-take-le, paste, paste-zero, paste-suc}
+use lib.ListN.{length, take, drop, length-append}
+use lib.Seq.{drop-drop, drop_at, take_at, length-take-le}
+use Rattle.wording.specs.declared.text.Line.{Line}
 use Rattle.wording.specs.Text.{laid, Laid}
-
--- ---- element by element: the first k of a text are laid
-
-pub record Begun (at : ℕ) (text before now : List ℕ) (k : ℕ) : Type 0 where
-  pub le : k ≤ length text
-  pub long : length now ≡ length before
-  pub so_far : now ≡ paste before at text k
-
-pub begun-none : (at : ℕ) (text before : List ℕ) → Begun at text before before 0
-begun-none at text before = record { le = omega arith; long = refl; so_far = paste-zero before at text }
-
-pub begun_more : (at : ℕ) (text before now : List ℕ) (k : ℕ) → at + length text ≤ length before → k < length text → Begun at text before now k → Begun at text before (set now (at + k) (get_or text k 0)) (k + 1)
-begun_more at text before now k room h b = record {
-  le = omega arith;
-  long = length-set now (at + k) (get_or text k 0) ∙ b.long;
-  so_far = ap (λ l. set l (at + k) (get_or text k 0)) b.so_far ∙ paste-suc before at text k 0 (omega arith) h ∙ ap (paste before at text) (sym (add-one k));
-}
-
-pub begun_all : (at : ℕ) (text before now : List ℕ) (k : ℕ) → length text ≤ k → Begun at text before now k → Laid (at + k) at text before now
-begun_all at text before now k h b =
-    let all : k ≡ length text = omega (arith, b.le) in
-    record { behind = ap (λ n. at + n) all; left = b.so_far ∙ ap (paste before at text) all ∙ ap (λ l. take at before ++ l ++ drop (at + length text) before) (take-length text) }
+use Rattle.wording.specs.Putting.{Put}
 
 -- ---- one behind the other
 
@@ -55,3 +34,13 @@ laid_as {at = at} {before = before} e l = record { behind = l.behind ∙ ap (λ 
 -- a word and what follows it, behind another text
 pub word-joined : {at mid r : ℕ} {s before between after : List ℕ} (t u : List ℕ) → at ≤ length before → Laid mid at s before between → Laid r mid (t ++ u) between after → Laid r at (s ++ t ++ u) before after
 word-joined {s = s} t u h one two = laid_as (sym (append_assoc s t u)) (joined h one two)
+
+-- the same of lines
+pub put_on : {s t : List ℕ} {a b c : Line} → a.at ≤ length a.to.now → Put s a b → Put t b c → Put (s ++ t) a c
+put_on h p q = record { list = q.list ∙ p.list; long = q.long ∙ p.long; laid = joined h p.laid q.laid }
+
+pub put_as : {s t : List ℕ} {a b : Line} → s ≡ t → Put s a b → Put t a b
+put_as e p = record { list = p.list; long = p.long; laid = laid_as e p.laid }
+
+pub word-put_on : {s : List ℕ} {a b c : Line} (t u : List ℕ) → a.at ≤ length a.to.now → Put s a b → Put (t ++ u) b c → Put (s ++ t ++ u) a c
+word-put_on {s = s} t u h p q = put_as (sym (append_assoc s t u)) (put_on h p q)

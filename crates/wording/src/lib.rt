@@ -19,12 +19,13 @@ pub enum Kind {
     Broken,
 }
 
+// What a line says of a record. A refusal is one answer of four here, since nobody goes on behind one and not behind another.
 #[derive(Clone, Copy)]
 pub enum Said {
     Ok,
     // The district that was made, or kept.
     OkWith(usize),
     Sorted(Class),
-    // A refusal's number.
+    // A refusal's number, whoever gives it.
     Refused(usize),
 }

@@ -1,11 +1,6 @@
 -- `areas::locate_on` passes one ring after the other. The invariant: what is known of the area when k rings of it were passed (`Past`). Assumes nothing.
-use Prim.Native.Nat.{◌-◌}
-use Rattle.areas.specs.Lengths.{most_rings}
 use Rattle.areas.proofs.Past.{Past}
 use Rattle.areas.proofs.locate_on.Given as goal
 
 abbrev pub invariant-loop-k : goal.invariant-loop-k
-invariant-loop-k l = Past l.xs l.ys l.sizes l.r l.about.0 l.at l.k
-
-abbrev pub decreases-loop-k : goal.decreases-loop-k
-decreases-loop-k l = most_rings - l.k
+invariant-loop-k l = Past l.xs l.ys l.sizes l.r l.about l.at l.k

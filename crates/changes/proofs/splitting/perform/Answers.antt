@@ -1,30 +1,34 @@
 -- `changes::splitting::perform` copies the district's ring before its room is closed. Assumes nothing.
-use Prim.Native.Nat.{◌+◌, ◌≤◌}
 use native.Mathlib.Omega.{arith}
-use mathlib.Core.Path.{sym, ap, subst, ◌∙◌}
-use lib.ListN.{length}
+use mathlib.Core.Path.{subst}
 use Rattle.ring.specs.Grid.{vertices}
-use Rattle.ring.specs.Columns.{points}
-use Rattle.ring.proofs.Columns.{length-points}
-use Rattle.districts.specs.Lists.{first_place, size, part}
-use Rattle.districts.proofs.Lent.{part_length}
-use Rattle.room.proofs.Written.{read_back}
+use Rattle.districts.specs.Lists.{first_place, size}
+use Rattle.room.specs.Room.{store_of}
 use Rattle.judging.specs.Splitting.{piece_one, piece_two}
-use Rattle.changes.specs.declared.Changed.TheVariants.{Done}
 use Rattle.changes.specs.Performing.{Divided}
+use Rattle.changes.proofs.Copied.{copied}
 use Rattle.changes.proofs.splitting.perform.Goals as goal
 
-pub returns : goal.returns
-returns c =
-    let a = c.args in
-    let store = points a.sx.now a.sy.now in
-    let runs = a.runs.now in
-    let W = vertices a.path.now in
-    let number = c.lowest_unused-e.ensures.0 in
-    let fits : first_place runs a.d + size runs a.d ≤ length store = omega (arith, length-points a.sx.now a.sy.now (c.requires.sx_len.0 ∙ sym c.requires.sx_len.1), c.requires.sx_len.0, c.requires.d_bound, c.requires.path_bound) in
-    let ring = read_back (part store (first_place runs a.d) (size runs a.d)) _ (part_length store (first_place runs a.d) (size runs a.d) fits) _ _ c.copy_ring-many.ensures.1 _ c.copy_ring-many.ensures.0 in
-    let store' = points c.divide.new.sx c.divide.new.sy in
-    let runs' = c.divide.new.runs in
-    let divided = subst (λ P. Divided store runs a.d c.lowest_unused-e.result (piece_one P a.i a.j W) (piece_two P a.i a.j W) store' runs') ring c.divide.ensures in
-    let P = part store (first_place runs a.d) (size runs a.d) in
-    (ap Done number, subst (λ e. Divided store runs a.d e (piece_one P a.i a.j W) (piece_two P a.i a.j W) store' runs') number divided)
+pub divide-requires : goal.divide-requires
+divide-requires c =
+    let s = c.args.store.now in
+    let d = c.args.cut.d in
+    let inside = c.requires.inside in
+    let ends = c.requires.ends in
+    let own = copied s.sx.now s.sy.now (first_place s.runs.now d) (size s.runs.now d) _ s.long.0 s.long.1 (omega (arith, inside, c.requires.room)) c.ring_of-ring.ensures in
+    record {
+      numbers = c.requires.numbers;
+      ring_len = (omega (arith, own.long), omega (arith, own.long), omega (arith, own.long, inside));
+      ends = (omega (arith, own.long, ends.0), omega (arith, own.long, ends.1), ends.2);
+      path_len = c.requires.path_len;
+      room = c.requires.room;
+    }
+
+pub returns-clause-divided : goal.returns-clause-divided
+returns-clause-divided c =
+    let s = c.args.store.now in
+    let after = c.divide.new.store in
+    let cut = c.args.cut in
+    let W = vertices c.args.path.now in
+    let own = copied s.sx.now s.sy.now (first_place s.runs.now cut.d) (size s.runs.now cut.d) _ s.long.0 s.long.1 (omega (arith, c.requires.inside, c.requires.room)) c.ring_of-ring.ensures in
+    subst (λ P. Divided (store_of s) s.runs.now cut.d c.args.e (piece_one P cut.i cut.j W) (piece_two P cut.i cut.j W) (store_of after) after.runs.now) own.ring c.divide.ensures.divided

@@ -1,25 +1,34 @@
 -- `codes::counting::raise` meets its contract. Assumes nothing.
-use Prim.Native.Nat.{◌+◌, ◌<◌}
+use Prim.Native.Nat.{ℕ, ◌+◌, ◌<◌}
 use native.Mathlib.Omega.{arith}
-use mathlib.Core.Path.{refl, sym, ap, subst, ◌∙◌}
-use lib.ListN.{get_or, set}
-use Rattle.districts.specs.Answers.{report}
-use Rattle.codes.specs.Counts.{counts, place_of, CountedBy}
-use Rattle.codes.proofs.Places.{uncounted-refused, limit-refused, counted-more}
+use mathlib.Core.Path.{◌≡◌, ap, subst, sym, ◌∙◌}
+use borrow.Author.Rules.{rules}
+use lib.ListN.{length, get_or}
+use Rattle.std.proofs.lemmas.Result.{err_from_is_err_and}
+use Rattle.std.specs.Option.{SomeIff, ok_or}
+use Rattle.refusals.specs.declared.Refusal.TheVariants.{CountFull}
+use Rattle.codes.specs.Counts.{counts, IsPlace, place_in}
+use Rattle.codes.proofs.Places.{limit-refused, counted-more}
 use Rattle.codes.proofs.counting.raise.Goals as goal
 
-pub returns-then-at-eq-COUNTS : goal.returns-then-at-eq-COUNTS
-returns-then-at-eq-COUNTS c n b at = uncounted-refused n b c.args.list.now (sym at ∙ c.if-at-eq-COUNTS.true)
-
-pub returns-then-n : goal.returns-then-n
-returns-then-n c n b at =
-    let counted : c.args.at < counts = omega (arith, c.requires.1, c.if-at-eq-COUNTS.false) in
-    let list = c.args.list.now in
-    limit-refused n b list (subst (λ k. k < counts) at counted) (ap (λ k. get_or list k 0) (sym at) ∙ c.if-n.true)
+pub returns-in_err-counts : goal.returns-in_err-counts
+returns-in_err-counts c n b at =
+    let p = err_from_is_err_and c.from_residual-in_err-counts.result c.from_residual-in_err-counts.ensures.1 in
+    let list = c.args.counts.now in
+    let k : ℕ = c.in_ok-place.place in
+    let is = c.in_ok-place.ensures.ok_part in
+    let none = c.in_err-counts.ensures.ok_part in
+    let over : get_or list k 0 + 1 < 4294967296 → ⊥ = subst (λ o. SomeIff o (get_or list k 0 + 1 < 4294967296) (get_or list k 0 + 1)) none c.checked_add.ensures in
+    let fits : get_or list k 0 < 4294967296 = search rules in
+    let full = c.in_err-counts.ensures.value ∙ ap (λ o. ok_or o CountFull) none in
+    let why : c.in_err-counts.field-0.0 ≡ CountFull = cc in
+    rw (p.1, p.2, why) (limit-refused n b list k (sym (ap place_in is) ∙ at) (subst IsPlace is c.requires) (omega (arith, over, fits)))
 
 pub returns : goal.returns
 returns c n b at =
-    let counted : c.args.at < counts = omega (arith, c.requires.1, c.if-at-eq-COUNTS.false) in
-    let list = c.args.list.now in
-    subst (λ k. CountedBy (report n b) (report n b) list (set list k (get_or list k 0 + 1))) (sym at)
-    (counted-more n b list (get_or list (place_of b) 0 + 1) c.requires.0 (subst (λ k. k < counts) at counted) (λ e. c.if-n.false (ap (λ k. get_or list k 0) at ∙ e)) refl)
+    let list = c.args.counts.now in
+    let k : ℕ = c.in_ok-place.place in
+    let is = c.in_ok-place.ensures.ok_part in
+    let some = subst (λ o. SomeIff o (get_or list k 0 + 1 < 4294967296) (get_or list k 0 + 1)) c.in_ok-counts.ensures.ok_part c.checked_add.ensures in
+    let long : length list ≡ counts = search rules in
+    counted-more n b list k (sym (ap place_in is) ∙ at) (subst IsPlace is c.requires) _ long (λ e. let f : ⊥ = omega (arith, e, some.0) in f) some.1

@@ -1,40 +1,15 @@
--- `index::bands::spanning` takes the lowest of the low bounds and the highest of the high ones. Assumes nothing.
-use Prim.Native.Nat.{◌/◌, ◌^◌, ◌<◌}
-use native.Mathlib.Omega.{arith}
-use mathlib.Core.Path.{◌≡◌, subst}
-use mathlib.Core.Bool.{true}
-use lib.Signed.{le_z}
-use mir.Syntax.{w32}
-use mir.Val.{SFits}
-use mir.Facts.{to_z-of_z}
-use borrow.Author.Rules.{rules}
-use Rattle.index.specs.Axis.{low_of, high_of}
-use Rattle.index.proofs.Order.{le_trans}
-use Rattle.index.proofs.Halves.{low_half, high_half}
+-- `index::bands::spanning`: the lowest and the highest of the bounds so far. Assumes nothing.
+use Rattle.std.proofs.Common.{rules, arith, below_more, ap, ◌≡◌, get_or}
+use Rattle.std.proofs.lemmas.List.{get_or_read}
+use Rattle.std.proofs.lemmas.Int.{ints, to_z-of_z}
+use Rattle.index.specs.declared.bounds.Bounds.{Bounds}
+use Rattle.index.specs.Axis.{no_bounds}
 use Rattle.index.proofs.bands.spanning.Goals as goal
 
-pub far-requires : goal.far-requires
-far-requires c =
-    let order : le_z c.lowest-low.result.0 c.highest-high.result.0 ≡ true = let bounds = c.args.bounds.now in
-    let low = c.lowest-low in
-    let high = c.highest-high in
-    le_trans low.result.0 (low_of bounds 0) high.result.0 (low_half bounds low.result.0 c.requires.bounds_len low.ensures 0 (omega arith))
-    (le_trans (low_of bounds 0) (high_of bounds 0) high.result.0 c.requires.bounds_value (high_half bounds high.result.0 c.requires.bounds_len high.ensures 0 (omega arith))) in
-    order
-
-pub returns : goal.returns
-returns c =
-    let order : le_z c.lowest-low.result.0 c.highest-high.result.0 ≡ true = let bounds = c.args.bounds.now in
-    let low = c.lowest-low in
-    let high = c.highest-high in
-    le_trans low.result.0 (low_of bounds 0) high.result.0 (low_half bounds low.result.0 c.requires.bounds_len low.ensures 0 (omega arith))
-    (le_trans (low_of bounds 0) (high_of bounds 0) high.result.0 c.requires.bounds_value (high_half bounds high.result.0 c.requires.bounds_len high.ensures 0 (omega arith))) in
-    let bounds = c.args.bounds.now in
-    let f : SFits w32 c.lowest-low.result.0 = search rules in
-    let g : SFits w32 c.highest-high.result.0 = search rules in
-    simp (to_z-of_z f, to_z-of_z g)
-    (record {
-      axis = record { order = order; most = c.shift.ensures.0; few = subst (λ n. n / 2 ^ c.shift.result < 64) c.far.ensures.0 c.shift.ensures.1 };
-      low = low_half bounds c.lowest-low.result.0 c.requires.bounds_len c.lowest-low.ensures;
-      high = high_half bounds c.highest-high.result.0 c.requires.bounds_len c.highest-high.ensures;
-    })
+pub loop-b-preserved : goal.loop-b-preserved
+loop-b-preserved c =
+    let i = c.loop-b.invariant in
+    let e : c.b-item.result ≡ get_or c.args.bounds.now c.loop-b.b-index no_bounds = get_or_read c.args.bounds.now _ _ (search rules) c.b-item.is no_bounds in
+    let l = ap (λ (b : Bounds). b.low) e in
+    let h = ap (λ (b : Bounds). b.high) e in
+    (grind (arith, ints), grind (arith, ints), below_more _ _ (λ d h. let k = i.2 d h in grind (arith, ints)) (grind (arith, ints, to_z-of_z)), below_more _ _ (λ d h. let k = i.3 d h in grind (arith, ints)) (grind (arith, ints, to_z-of_z)))

@@ -1,38 +1,29 @@
--- `judging::splits::split` asks in the rules' order. Assumes nothing.
-use mathlib.Core.Path.{◌≡◌, sym, ap, ◌∙◌}
-use Rattle.refusals.specs.Verdicts.{verdict, verdict_of}
-use Rattle.districts.specs.Lent.{Lists, lent, outline_of, store_of, formed, means, beginning}
+-- `judging::splits::split` judges the store of lists that are well-formed. Assumes nothing.
+use mathlib.Core.Path.{refl, sym, ap, transport, ◌∙◌}
+use Rattle.std.proofs.lemmas.Result.{err_from_is_err_and}
+use Rattle.refusals.specs.Verdicts.{verdict}
+use Rattle.districts.specs.Lent.{outline_of, store_of, formed}
+use Rattle.districts.specs.Held.{lists_of}
+use Rattle.districts.proofs.Begun.{begun-formed, begun-passed, begun-refused}
 use Rattle.room.proofs.Forms.{sound}
-use Rattle.districts.proofs.Sound.{runs-length}
-use Rattle.districts.proofs.Begun.{begins-so, begun-formed, begun-passed, begun-refused}
-use Rattle.judging.proofs.Judged.{tests-are}
+use Rattle.judging.specs.Judging.{lowest_free, district_tests, Judged}
+use Rattle.judging.proofs.Judged.{free-is, tests-are}
 use Rattle.judging.proofs.splits.split.Goals as goal
 
-pub begins-requires : goal.begins-requires
-begins-requires c good =
-    let lists : Lists = lent c.args.ox.now c.args.oy.now c.args.sx.now c.args.sy.now c.args.runs.now in
-    let l = lists in runs-length l (sym c.requires ∙ good)
+pub returns-in_err-store : goal.returns-in_err-store
+returns-in_err-store c =
+    let p = err_from_is_err_and c.from_residual.result c.from_residual.ensures.1 in
+    rw (p.1, p.2) (sym (begun-refused (lists_of c.args.lists.now) _ c.in_err-store.ensures _))
 
-pub judge_district-requires : goal.judge_district-requires
-judge_district-requires c =
-    let lists : Lists = lent c.args.ox.now c.args.oy.now c.args.sx.now c.args.sy.now c.args.runs.now in
-    let said : verdict_of c.begins.result ≡ verdict (beginning (formed lists) (means lists)) = begins-so lists c.args.good c.begins.result c.requires c.begins.ensures in
-    let l = lists in
-    let facts = sound l (begun-formed l c.begins.result said c.in-Accepted.is) in
-    record { runs_len = facts.runs-length; runs_bound = facts.most }
-
-pub returns-in-Accepted : goal.returns-in-Accepted
-returns-in-Accepted c =
-    let lists : Lists = lent c.args.ox.now c.args.oy.now c.args.sx.now c.args.sy.now c.args.runs.now in
-    let said : verdict_of c.begins.result ≡ verdict (beginning (formed lists) (means lists)) = begins-so lists c.args.good c.begins.result c.requires c.begins.ensures in
-    let l = lists in
+pub returns : goal.returns
+returns c =
+    let begun = c.in_ok-store.ensures in
+    let l = lists_of c.args.lists.now in
     let a = c.args in
-    let well = begun-formed l c.begins.result said c.in-Accepted.is in
-    begun-passed l c.begins.result said c.in-Accepted.is _ _ c.judge_district.ensures
-    ∙ ap verdict (sym (tests-are (outline_of l) (store_of l) l.runs (sound l well) a.d a.i a.j a.path.now (formed l)))
-
-pub returns-in-Refused : goal.returns-in-Refused
-returns-in-Refused c =
-    let lists : Lists = lent c.args.ox.now c.args.oy.now c.args.sx.now c.args.sy.now c.args.runs.now in
-    let said : verdict_of c.begins.result ≡ verdict (beginning (formed lists) (means lists)) = begins-so lists c.args.good c.begins.result c.requires c.begins.ensures in
-    begun-refused lists c.begins.result said _ (ap verdict_of c.in-Refused.is) _
+    let facts = sound l (begun-formed l begun.0) in
+    let tests =
+    ap (λ r. verdict (district_tests r a.cut.d a.cut.i a.cut.j a.path.now)) begun.1.2
+    ∙ begun-passed l begun.0 _ _ refl
+    ∙ ap verdict (sym (tests-are (outline_of l) (store_of l) l.runs facts a.cut.d a.cut.i a.cut.j a.path.now (formed l))) in
+    let free = ap lowest_free begun.1.2 ∙ sym (free-is (outline_of l) (store_of l) l.runs facts) in
+    transport (λ t. Judged c.judged.result (tests t) (free t)) c.judged.ensures

@@ -1,11 +1,8 @@
--- `records::fields::double` keeps the patterns of NaNs from `from_bits`. Assumes nothing.
-use native.Mathlib.Omega.{arith}
-use mathlib.Core.Path.{sym, ◌∙◌}
-use Rattle.records.proofs.Doubles.{zero_by_zero, above-infinity, up_to_infinity}
+-- `records::fields::double` reads its bytes as the library puts them together. Assumes nothing.
+use mathlib.Core.Path.{ap, ◌∙◌}
+use lib.Ieee.{binary64, of_bits}
+use Rattle.records.proofs.Reading.{assembled}
 use Rattle.records.proofs.fields.double.Goals as goal
 
-pub returns-then-bits-gt-INFINITY : goal.returns-then-bits-gt-INFINITY
-returns-then-bits-gt-INFINITY c = zero_by_zero ∙ sym (above-infinity c.args.bits (omega (arith, c.if-bits-gt-INFINITY.true)))
-
-pub float_from_bits-result : goal.float_from_bits-result
-float_from_bits-result c = up_to_infinity c.args.bits (omega (arith, c.if-bits-gt-INFINITY.false))
+pub returns : goal.returns
+returns c = c.f64_from_bits_with_nan.ensures ∙ ap (of_bits binary64) (c.from_le_bytes.ensures ∙ assembled c.args.bytes.now _ c.args.at 7 c.requires c.array.ensures)

@@ -1,28 +1,27 @@
 -- `register::founding::found_known` writes where nothing is refused, and otherwise leaves the lists. Assumes nothing.
 use Prim.Native.Nat.{ℕ, ◌+◌, ◌/◌, ◌%◌, ◌≤◌}
 use native.Mathlib.Omega.{arith}
-use mathlib.Core.Path.{◌≡◌, refl, sym, ap, transport, ◌∙◌}
+use mathlib.Core.Path.{◌≡◌, sym, ap, subst, transport, ◌∙◌}
 use mathlib.Core.Bool.{true, false}
 use mathlib.Core.List.{List}
 use lib.Dec.{eqb, ltb}
 use lib.IntN.{ℤ}
 use lib.ListN.{length}
 use borrow.Author.Tests.{eqb-true, eqb-false, ltb-false, not-false}
+use Rattle.std.specs.Prelude.{Ok}
 use Rattle.ring.specs.Grid.{vertices, some_beyond}
 use Rattle.ring.proofs.Pick.{neither_left, neither_right}
 use Rattle.ring.proofs.Vertices.{length-vertices}
 use Rattle.districts.specs.Lists.{outline_size, meaning}
-use Rattle.districts.specs.Lent.{Lists, lent, outline_of, store_of, formed, means}
+use Rattle.districts.specs.Lent.{Lists, outline_of, store_of, formed, means}
+use Rattle.districts.specs.Held.{founding_of}
 use Rattle.districts.proofs.Sound.{outline-lengths, store-lengths, runs-length}
 use Rattle.districts.proofs.Lent.{outline-in-use}
-use Rattle.refusals.specs.declared.Refusal.{Refusal}
-use Rattle.refusals.specs.Numbers.{number_of}
-use Rattle.refusals.specs.Verdicts.{accept, refuse, verdict, verdict_of}
+use Rattle.refusals.specs.Verdicts.{accept, verdict}
 use Rattle.refusals.proofs.Verdicts.{accepted}
 use Rattle.room.proofs.Forms as Forms
 use Rattle.room.proofs.Forms.{Sound, Long, sound}
 use Rattle.room.proofs.Written.{numbers-vertices}
-use Rattle.register.specs.declared.Founded.TheVariants.{Done, Refused}
 use Rattle.register.specs.Founding.{found_tests, founded}
 use Rattle.register.specs.Calls.{Wrote, FoundBy}
 use Rattle.register.proofs.Founds.{founded-sound, founded-meaning}
@@ -37,9 +36,9 @@ record Free (l : Lists) (xs : List ℤ) (n : ℕ) : Type 0 where
   most : n ≤ 2048
   grid : some_beyond xs ≡ false
 
-free : (l : Lists) (xs : List ℤ) → verdict (found_tests (formed l) (means l) xs) ≡ accept → Free l xs (length xs / 2)
+free : (l : Lists) (xs : List ℤ) → accept ≡ verdict (found_tests (formed l) (means l) xs) → Free l xs (length xs / 2)
 free l xs e =
-    let first = accepted 1 _ _ e in
+    let first = accepted 1 _ _ (sym e) in
     let second = accepted 3 _ _ first.1 in
     let third = accepted 4 _ _ second.1 in
     let fourth = accepted 5 _ _ third.1 in
@@ -57,7 +56,7 @@ free l xs e =
       grid = fourth.0;
     }
 
-wrote-all : (xs : List ℤ) (n : ℕ) (l after : Lists) → Free l xs n → Long after → verdict (found_tests (formed l) (means l) xs) ≡ accept → Wrote (vertices xs) l after → FoundBy Done xs l after
+wrote-all : (xs : List ℤ) (n : ℕ) (l after : Lists) → Free l xs n → Long after → accept ≡ verdict (found_tests (formed l) (means l) xs) → Wrote (vertices xs) l after → FoundBy (Ok tt) xs l after
 unfolding founded
 wrote-all xs n l after f long e w =
     let many : length (vertices xs) ≡ n = length-vertices xs n f.even in
@@ -68,37 +67,34 @@ wrote-all xs n l after f long e w =
     let few : 3 ≤ length (vertices xs) = omega (arith, many, least) in
     let fits : length (vertices xs) ≤ 2048 = omega (arith, many, most) in
     record {
-      said = sym e;
+      said = e;
       left = (
         Forms.formed after long (transport (λ i. Sound (sym w.outline i) (sym w.store i) (sym w.runs i)) (founded-sound (outline_of l) (store_of l) l.runs (vertices xs) sure f.none few fits grid)),
         (λ i. meaning (w.outline i) (w.store i) (w.runs i)) ∙ founded-meaning (outline_of l) (store_of l) l.runs (vertices xs) sure f.none few fits grid,
       );
     }
 
-left-all : (q : Refusal) (xs : List ℤ) (l : Lists) → verdict (found_tests (formed l) (means l) xs) ≡ refuse (number_of q) → FoundBy (Refused q) xs l l
-left-all q xs l e = record { said = sym e; left = refl }
-
-pub write-requires : goal.write-requires
-write-requires c =
-    let a = c.args in
-    let l : Lists = lent a.ox.now a.oy.now a.sx.now a.sy.now a.runs.now in
-    let f = free l a.ring.now (sym c.judged.ensures ∙ ap verdict_of c.in-Accepted.is) in
+pub write-requires-clause-columns_len : goal.write-requires-clause-columns_len
+write-requires-clause-columns_len c =
+    let l = founding_of c.args.lists.now in
+    let f = free l c.args.ring.now (subst (λ l. accept ≡ verdict (found_tests (formed l) (means l) c.args.ring.now)) c.read.ensures c.in_ok-judged.ensures) in
     let own = outline-lengths l f.good in
     let all = store-lengths l f.good in
-    record { ox_len = (own.0, own.1, all.0, all.1, runs-length l f.good); ring_len = (f.even, f.most) }
+    (own.0, own.1, all.0, all.1)
 
-pub returns-in-Accepted : goal.returns-in-Accepted
-returns-in-Accepted c =
-    let a = c.args in
-    let l : Lists = lent a.ox.now a.oy.now a.sx.now a.sy.now a.runs.now in
-    let told : verdict (found_tests (formed l) (means l) a.ring.now) ≡ accept = sym c.judged.ensures ∙ ap verdict_of c.in-Accepted.is in
-    let f = free l a.ring.now told in
-    let own = outline-lengths l f.good in
-    let all = store-lengths l f.good in
-    let same = c.write.auto in
-    wrote-all a.ring.now _ l _ f (record { outline = (same.ox ∙ own.0, same.oy ∙ own.1); store = (same.sx ∙ all.0, same.sy ∙ all.1) }) told c.write.ensures
+pub write-requires-clause-runs_len : goal.write-requires-clause-runs_len
+write-requires-clause-runs_len c =
+    let l = founding_of c.args.lists.now in
+    runs-length l (free l c.args.ring.now (subst (λ l. accept ≡ verdict (found_tests (formed l) (means l) c.args.ring.now)) c.read.ensures c.in_ok-judged.ensures)).good
 
-pub returns-in-Refused : goal.returns-in-Refused
-returns-in-Refused c =
-    let a = c.args in
-    left-all _ a.ring.now (lent a.ox.now a.oy.now a.sx.now a.sy.now a.runs.now) (sym c.judged.ensures ∙ ap verdict_of c.in-Refused.is)
+pub write-requires-clause-ring_len : goal.write-requires-clause-ring_len
+write-requires-clause-ring_len c =
+    let f = free (founding_of c.args.lists.now) c.args.ring.now (subst (λ l. accept ≡ verdict (found_tests (formed l) (means l) c.args.ring.now)) c.read.ensures c.in_ok-judged.ensures) in
+    (omega (arith, f.even), f.most)
+
+pub returns-clause-found : goal.returns-clause-found
+returns-clause-found c =
+    let l = founding_of c.args.lists.now in
+    let told = subst (λ l. accept ≡ verdict (found_tests (formed l) (means l) c.args.ring.now)) c.read.ensures c.in_ok-judged.ensures in
+    let long = c.write.ensures.columns_len in
+    wrote-all c.args.ring.now _ l _ (free l c.args.ring.now told) (record { outline = (long.0, long.1); store = (long.2, long.3) }) told c.write.ensures.wrote

@@ -1,35 +1,30 @@
--- `register::placing::assign_at` answers by where the position is. Assumes nothing.
-use mathlib.Core.Path.{◌≡◌, subst, ◌∙◌}
-use mir.Syntax.{w32}
-use mir.Val.{SFits, to_z, of_z}
-use mir.Facts.{to_z-of_z}
-use borrow.Author.Rules.{rules}
-use Rattle.districts.specs.Answers.{answer_of}
-use Rattle.register.specs.Sorting.{assigned}
-use Rattle.districts.specs.Lent.{Lists, lent, formed, means}
-use Rattle.register.specs.declared.Position.{Position}
-use Rattle.register.specs.declared.placing.Spot.{Spot}
-use Rattle.register.specs.Spots.{Spots}
-use Rattle.register.proofs.ByPosition.{spot-at, spot-nowhere}
+-- `register::placing::assign_at` refuses by 1 and 2, and otherwise answers by where the position is. Assumes nothing.
+use mathlib.Core.Path.{ap, ◌∙◌}
+use Rattle.std.proofs.lemmas.Result.{err_from_is_err_and}
+use Rattle.districts.specs.Answers.{report}
+use Rattle.districts.specs.Held.{lists_of}
+use Rattle.districts.proofs.Begun.{begun-formed}
+use Rattle.refusals.specs.Verdicts.{verdict}
+use Rattle.register.specs.Sorting.{point_tests, given}
+use Rattle.register.proofs.Given.{store-sorted}
+use Rattle.register.proofs.ByPosition.{spot-taken, spot-refused, begun-first}
 use Rattle.register.proofs.placing.assign_at.Goals as goal
 
-spots : (p : Position) (q r : Spot) → Spots q p → q ≡ r → Spots r p
-spots p q r s e = subst (λ q. Spots q p) e s
+pub returns-in_err-store : goal.returns-in_err-store
+returns-in_err-store c =
+    let p = err_from_is_err_and c.from_residual.result c.from_residual.ensures.1 in
+    rw (p.1, p.2) (begun-first _ _ c.args.number c.args.position _ c.in_err-store.ensures)
 
-pub returns-in-At : goal.returns-in-At
-returns-in-At c =
-    let a = c.args in
-    let l : Lists = lent a.ox.now a.oy.now a.sx.now a.sy.now a.runs.now in
-    let r = c.in-At.r in
-    let across : SFits w32 r.x = search rules in
-    let up : SFits w32 r.y = search rules in
-    let said : answer_of c.assign.result ≡ assigned (formed l) (means l) a.number (to_z w32 (of_z w32 r.x)) (to_z w32 (of_z w32 r.y)) = c.assign.ensures in
-    said
-    ∙ (λ i. assigned (formed l) (means l) a.number (to_z-of_z across i) (to_z-of_z up i))
-    ∙ spot-at (formed l) (means l) a.number a.position r (spots a.position _ _ c.spot_of.ensures c.in-At.is)
+pub returns-in_err-spot_of : goal.returns-in_err-spot_of
+returns-in_err-spot_of c =
+    let p = err_from_is_err_and c.from_residual-in_err-spot_of.result c.from_residual-in_err-spot_of.ensures.1 in
+    rw (p.1, p.2) (spot-refused _ _ c.args.number c.args.position _ c.in_err-spot_of.ensures c.in_ok-store.ensures.0)
 
-pub returns-in-Nowhere : goal.returns-in-Nowhere
-returns-in-Nowhere c =
-    let a = c.args in
-    let l : Lists = lent a.ox.now a.oy.now a.sx.now a.sy.now a.runs.now in
-    c.refused.ensures ∙ spot-nowhere (formed l) (means l) a.number a.position c.in-Nowhere.why (spots a.position _ _ c.spot_of.ensures c.in-Nowhere.is)
+pub returns : goal.returns
+returns c =
+    let r = c.in_ok-spot_of.field-0 in
+    let begun = c.in_ok-store.ensures in
+    let lists = lists_of c.args.lists.now in
+    c.place.ensures
+    ∙ ap (λ b. given (verdict (point_tests r.x r.y)) (report c.args.number b)) (store-sorted lists c.in_ok-store.store (begun-formed lists begun.0) begun.1 r)
+    ∙ spot-taken _ _ c.args.number c.args.position r c.in_ok-spot_of.ensures begun.0

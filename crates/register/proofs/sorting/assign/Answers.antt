@@ -1,34 +1,24 @@
 -- `register::sorting::assign` refuses by 1 and 2, and otherwise answers by the point. Assumes nothing.
-use mathlib.Core.Path.{◌≡◌, sym, ap, ◌∙◌}
-use mathlib.Core.Bool.{true}
-use mir.Facts.{to_z-of_z}
-use Rattle.refusals.specs.Verdicts.{accept, verdict, verdict_of}
-use Rattle.ring.specs.Grid.{point}
+use mathlib.Core.Path.{ap, ◌∙◌}
+use Rattle.std.proofs.lemmas.Result.{err_from_is_err_and}
 use Rattle.districts.specs.Answers.{report}
-use Rattle.districts.specs.Lent.{Lists, lent, formed, means, beginning}
-use Rattle.districts.proofs.Lent.{good-runs}
+use Rattle.districts.specs.Held.{lists_of}
 use Rattle.districts.proofs.Begun.{begun-formed}
+use Rattle.refusals.specs.Verdicts.{verdict}
 use Rattle.register.specs.Sorting.{point_tests, given}
-use Rattle.register.proofs.Given.{answer-refused, answer-given, sorted-is}
+use Rattle.register.proofs.Given.{answer-refused, answer-given, store-sorted}
 use Rattle.register.proofs.sorting.assign.Goals as goal
 
-pub place-requires : goal.place-requires
-place-requires c =
-    let lists : Lists = lent c.args.ox.now c.args.oy.now c.args.sx.now c.args.sy.now c.args.runs.now in
-    let good : formed lists ≡ true = begun-formed lists c.usable.result c.usable.ensures c.in-Accepted.is in
-    good-runs lists good
+pub returns-in_err-store : goal.returns-in_err-store
+returns-in_err-store c =
+    let p = err_from_is_err_and c.from_residual.result c.from_residual.ensures.1 in
+    rw (p.1, p.2) (answer-refused _ _ c.args.number c.args.r.x c.args.r.y _ c.in_err-store.ensures)
 
-pub returns-in-Accepted : goal.returns-in-Accepted
-returns-in-Accepted c =
-    let lists : Lists = lent c.args.ox.now c.args.oy.now c.args.sx.now c.args.sy.now c.args.runs.now in
-    let good : formed lists ≡ true = begun-formed lists c.usable.result c.usable.ensures c.in-Accepted.is in
-    let begun : verdict (beginning (formed lists) (means lists)) ≡ accept = sym c.usable.ensures ∙ ap verdict_of c.in-Accepted.is in
-    let a = c.args in
+pub returns : goal.returns
+returns c =
+    let r = c.args.r in
+    let begun = c.in_ok-store.ensures in
+    let lists = lists_of c.args.lists.now in
     c.place.ensures
-    ∙ (λ i. given (verdict (point_tests (to_z-of_z c.ranges.x i) (to_z-of_z c.ranges.y i))) (report a.number (sorted-is lists good (point (to_z-of_z c.ranges.x i) (to_z-of_z c.ranges.y i)) i)))
-    ∙ answer-given (formed lists) (means lists) a.number a.x a.y begun
-
-pub returns-in-Refused : goal.returns-in-Refused
-returns-in-Refused c =
-    let lists : Lists = lent c.args.ox.now c.args.oy.now c.args.sx.now c.args.sy.now c.args.runs.now in
-    answer-refused (formed lists) (means lists) c.args.number c.args.x c.args.y _ (sym c.usable.ensures ∙ ap verdict_of c.in-Refused.is)
+    ∙ ap (λ b. given (verdict (point_tests r.x r.y)) (report c.args.number b)) (store-sorted lists c.in_ok-store.store (begun-formed lists begun.0) begun.1 r)
+    ∙ answer-given _ _ c.args.number r.x r.y begun.0

@@ -1,19 +1,6 @@
--- `register::sorting::place` refuses a point beyond the grid, and otherwise sorts it. Assumes nothing.
-use mathlib.Core.Path.{sym, ap, ◌∙◌}
-use Rattle.districts.specs.Answers.{report}
-use Rattle.register.proofs.Given.{point-refused, point-taken, point-grid}
+-- `register::sorting::place` sorts a point of the grid only. Assumes nothing.
+use Rattle.register.proofs.Given.{taken-grid}
 use Rattle.register.proofs.sorting.place.Goals as goal
 
-pub returns-then-off_grid : goal.returns-then-off_grid
-returns-then-off_grid c =
-    let r = c.args.r in
-    point-refused r.x r.y _ (sym c.off_grid.ensures ∙ c.if-off_grid.true)
-
 pub sort-requires : goal.sort-requires
-sort-requires c =
-    record { good_runs = c.requires; on_grid = point-grid c.args.r (sym c.off_grid.ensures ∙ c.if-off_grid.false) }
-
-pub returns : goal.returns
-returns c =
-    let a = c.args in
-    ap (report a.number) c.sort.ensures ∙ point-taken a.r.x a.r.y _ (sym c.off_grid.ensures ∙ c.if-off_grid.false)
+sort-requires c = taken-grid c.args.r c.in_ok-on_grid.ensures

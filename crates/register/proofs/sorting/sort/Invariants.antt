@@ -1,5 +1,4 @@
 -- `register::sorting::sort` sees one number after the other. The invariant: what is seen of the numbers below d (`Sorts`), and `past` is what they have together. Assumes nothing.
-use Prim.Native.Nat.{◌-◌}
 use mathlib.Core.Path.{◌≡◌}
 use Rattle.districts.specs.Counts.{sum_to}
 use Rattle.districts.specs.Lists.{size}
@@ -7,8 +6,5 @@ use Rattle.register.proofs.Runs.{lies}
 use Rattle.register.proofs.Sorts.{Sorts}
 use Rattle.register.proofs.sorting.sort.Given as goal
 
-abbrev pub invariant-loop-past : goal.invariant-loop-past
-invariant-loop-past l = Sorts (lies l.sx l.sy l.runs l.r) l.d l.seen × (l.past ≡ sum_to l.d (size l.runs))
-
-abbrev pub decreases-loop-past : goal.decreases-loop-past
-decreases-loop-past l = 64 - l.d
+abbrev pub invariant-loop-d : goal.invariant-loop-d
+invariant-loop-d l = Sorts (lies l.store l.r) l.d l.seen × (l.past ≡ sum_to l.d (size l.store.runs.list.now))

@@ -12,14 +12,6 @@ use Rattle.ring.proofs.Pick.{pick_true}
 use Rattle.ring.proofs.Crossings.{marks-few}
 use Rattle.ring.proofs.counting.added.Goals as goal
 
-pub overflow_sub-result : goal.overflow_sub-result
-overflow_sub-result c =
-    let differ-few : nat_abs (c.args.from.low -ℤ c.args.to.low) ≤ 1 = subst₂ (λ (x y : ℤ). nat_abs (x -ℤ y) ≤ 1) (sym c.requires.0) (sym c.requires.1) (marks-few (lt_z c.args.from.way.y (pos 0)) (lt_z c.args.to.way.y (pos 0))) in
-    let differ-fits : SFits w64 (c.args.from.low -ℤ c.args.to.low) = within-fits w64 (c.args.from.low -ℤ c.args.to.low) 1 differ-few tt in
-    let f : SFits w64 c.args.from.low = search rules in
-    let t : SFits w64 c.args.to.low = search rules in
-    simp (to_z-of_z f, to_z-of_z t) differ-fits
-
 pub returns-then-counts : goal.returns-then-counts
 returns-then-counts c =
     let differ-few : nat_abs (c.args.from.low -ℤ c.args.to.low) ≤ 1 = subst₂ (λ (x y : ℤ). nat_abs (x -ℤ y) ≤ 1) (sym c.requires.0) (sym c.requires.1) (marks-few (lt_z c.args.from.way.y (pos 0)) (lt_z c.args.to.way.y (pos 0))) in

@@ -1,6 +1,6 @@
 -- `ring::grid::some_beyond` looks at every number. The invariant: a number of the list is beyond the grid exactly if one was found
 -- or one is left to find. Assumes nothing.
-use Prim.Native.Nat.{ℕ, ◌≤◌, ◌-◌}
+use Prim.Native.Nat.{ℕ, ◌≤◌}
 use mathlib.Core.Path.{◌≡◌}
 use mathlib.Core.Bool.{Bool, ◌||◌}
 use mathlib.Core.List.{List}
@@ -13,8 +13,5 @@ pub record Looked (list : List ℤ) (found : Bool) (i : ℕ) : Type 0 where
   pub le : i ≤ length list
   pub so_far : some_beyond list ≡ (found || some_beyond (drop i list))
 
-abbrev pub invariant-loop-i : goal.invariant-loop-i
-invariant-loop-i l = Looked l.list l.found l.i
-
-abbrev pub decreases-loop-i : goal.decreases-loop-i
-decreases-loop-i l = length l.list - l.i
+abbrev pub invariant-loop-x : goal.invariant-loop-x
+invariant-loop-x l = Looked l.list l.found l.x-index

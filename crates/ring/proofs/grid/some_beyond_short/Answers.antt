@@ -1,29 +1,16 @@
 -- `ring::grid::some_beyond_short` goes by fours. The invariant: no number before i is beyond the grid, and i is at most four past the last four's place. Assumes nothing.
 use native.Mathlib.Omega.{arith}
 use mathlib.Core.Path.{sym, ◌∙◌}
-use Rattle.ring.proofs.Search.{unmet-none}
 use Rattle.ring.proofs.Within.{four-more, four-found, four-all}
 use Rattle.ring.proofs.grid.some_beyond_short.Goals as goal
-
-pub loop-i-init : goal.loop-i-init
-loop-i-init c = (omega arith, unmet-none _)
-
-pub four_beyond-requires : goal.four_beyond-requires
-four_beyond-requires c = omega (arith, c.loop-i-test.true, c.requires)
 
 pub returns-then-four_beyond : goal.returns-then-four_beyond
 returns-then-four_beyond c =
     sym (four-found c.args.list.now c.loop-i.i (sym c.four_beyond.ensures ∙ c.if-four_beyond.true))
 
-pub loop-i-smaller : goal.loop-i-smaller
-loop-i-smaller c = omega (arith, c.loop-i.invariant.0)
-
 pub loop-i-preserved : goal.loop-i-preserved
 loop-i-preserved c =
     (omega (arith, c.loop-i-test.true), four-more c.args.list.now c.loop-i.i c.loop-i.invariant.1 (sym c.four_beyond.ensures ∙ c.if-four_beyond.false))
-
-pub four_beyond-requires-2 : goal.four_beyond-requires-2
-four_beyond-requires-2 c = omega (arith, c.requires)
 
 pub returns : goal.returns
 returns c =

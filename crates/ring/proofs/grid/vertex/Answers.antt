@@ -12,7 +12,7 @@ use Rattle.ring.proofs.grid.vertex.Goals as goal
 
 pub returns : goal.returns
 returns c =
-    let xs = c.args.ring.now in
+    let xs = c.args.list.now in
     let i = c.args.i in
     let f : SFits w32 (get_or xs (2 * i) (pos 0)) = search rules in
     let g : SFits w32 (get_or xs (2 * i + 1) (pos 0)) = search rules in

@@ -1,64 +1,32 @@
 -- `ring::places::edges` takes every edge in turn. The invariant: the span is that of the edges before e, and `from` leads to vertex e. Assumes nothing.
-use Prim.Native.Nat.{ℕ, suc}
-use native.Mathlib.Numerals.{add-one}
+use Prim.Native.Nat.{ℕ, ◌+◌}
 use native.Mathlib.Omega.{arith}
 use mathlib.Core.Path.{◌≡◌, sym, ap, subst, ◌∙◌}
 use lib.ListN.{length}
-use Rattle.ring.specs.Grid.{vertices}
 use Rattle.ring.specs.Rings.{at}
 use Rattle.ring.specs.Locate.{on_edge}
-use Rattle.ring.specs.Walk.{head_of, Way}
-use Rattle.ring.proofs.Vertices.{length-vertices, at-end}
-use Rattle.ring.proofs.Walks.{ready-clean}
-use Rattle.ring.proofs.Spans.{Spans, spans-none, spans-edge, spans_all}
+use Rattle.ring.specs.Walk.{head_of, Way, in_line, with_edge}
+use Rattle.ring.proofs.Vertices.{at-end}
+use Rattle.ring.proofs.Spans.{Spans, spans-edge, spans_all}
 use Rattle.ring.proofs.places.edges.Goals as goal
 
-pub way-from-requires : goal.way-from-requires
-way-from-requires c =
-    let size : length (vertices c.args.ring.now) ≡ c.args.n = length-vertices c.args.ring.now c.args.n c.requires.even in
-    record { clean = ready-clean c.args.ring.now c.args.n (head_of c.args.r) c.requires; i_in_bounds = omega (arith, c.requires.least) }
-
-pub loop-e-init : goal.loop-e-init
-loop-e-init c = record { within = omega (arith, c.requires.least); met = spans-none _ _; way = c.way-from.ensures }
-
-pub overflow_add-e : goal.overflow_add-e
-overflow_add-e c = omega (arith, c.loop-e.invariant.within, c.requires.most)
-
-pub way-to-requires : goal.way-to-requires
-way-to-requires c =
-    let size : length (vertices c.args.ring.now) ≡ c.args.n = length-vertices c.args.ring.now c.args.n c.requires.even in
-    record { clean = ready-clean c.args.ring.now c.args.n (head_of c.args.r) c.requires; i_in_bounds = omega (arith, c.loop-e-test.true) }
-
-pub along-met-requires : goal.along-met-requires
-along-met-requires c = (c.loop-e.invariant.way.short, c.way-to.ensures.short)
-
 pub loop-e-preserved : goal.loop-e-preserved
-loop-e-preserved c =
-    let a = c.args in
-    let P = vertices a.ring.now in
-    let e = c.loop-e.e in
-    let to : Way (head_of a.r) (at P (suc e)) c.way-to.result = subst (λ (k : ℕ). Way (head_of a.r) (at P k) c.way-to.result) (add-one e) c.way-to.ensures in
-    record {
-      within = c.loop-e-test.true;
-      met = subst (λ (k : ℕ). Spans (on_edge P (head_of a.r)) a.n k c.along-met.result) (sym (add-one e)) (spans-edge P (head_of a.r) a.n e c.loop-e.met c.along-met.result _ _ c.loop-e.invariant.within c.loop-e.invariant.way to c.loop-e.invariant.met c.along-met.ensures);
-      way = c.way-to.ensures;
-    }
-
-pub way-requires : goal.way-requires
-way-requires c =
-    let size : length (vertices c.args.ring.now) ≡ c.args.n = length-vertices c.args.ring.now c.args.n c.requires.even in
-    record { clean = ready-clean c.args.ring.now c.args.n (head_of c.args.r) c.requires; i_in_bounds = omega (arith, c.requires.least) }
-
-pub along-requires : goal.along-requires
-along-requires c = (c.loop-e.invariant.way.short, c.way.ensures.short)
+loop-e-preserved g c =
+    let P = g.R.Ring.points c.args.ring.now in
+    let R = head_of c.args.r in
+    let (spans, way) = c.loop-e.invariant in
+    (subst (Spans (on_edge P R) (c.loop-e.e + 1)) (sym c.along-met.ensures) (spans-edge P R c.loop-e.e c.loop-e.met _ _ way c.way-to.ensures spans), c.way-to.ensures)
 
 pub returns : goal.returns
-returns c =
-    let size : length (vertices c.args.ring.now) ≡ c.args.n = length-vertices c.args.ring.now c.args.n c.requires.even in
-    let a = c.args in
-    let P = vertices a.ring.now in
+returns g c =
+    let P = g.R.Ring.points c.args.ring.now in
+    let R = head_of c.args.r in
     let e = c.loop-e.e in
-    let last : suc e ≡ a.n = omega (arith, c.loop-e.invariant.within, c.loop-e-test.false) in
-    let round : at P 0 ≡ at P (suc e) = sym (at-end P (omega (arith, size, c.requires.least))) ∙ ap (at P) (size ∙ sym last) in
-    let to : Way (head_of a.r) (at P (suc e)) c.way.result = subst (λ Q. Way (head_of a.r) Q c.way.result) round c.way.ensures in
-    spans_all (on_edge P (head_of a.r)) a.n c.along.result (subst (λ (k : ℕ). Spans (on_edge P (head_of a.r)) a.n k c.along.result) last (spans-edge P (head_of a.r) a.n e c.loop-e.met c.along.result _ _ c.loop-e.invariant.within c.loop-e.invariant.way to c.loop-e.invariant.met c.along.ensures))
+    let (spans, way) = c.loop-e.invariant in
+    let last : e + 1 ≡ length P = omega (arith, c.loop-e-test.false, c.len-last.ensures.all, c.len-last.ensures.least) in
+    let round : at P 0 ≡ at P (e + 1) = sym (at-end P (omega (arith, last))) ∙ ap (at P) (sym last) in
+    let to : Way R (at P (e + 1)) c.way.result = subst (λ Q. Way R Q c.way.result) round c.way.ensures in
+    let all = spans-edge P R e c.loop-e.met _ _ way to spans in
+    c.along.ensures
+    ∙ ap (λ (k : ℕ). with_edge (in_line c.loop-e.from c.way.result) k c.loop-e.met) (omega (arith, last, c.len-last.ensures.all))
+    ∙ spans_all (on_edge P R) (length P) _ (subst (λ (k : ℕ). Spans (on_edge P R) k (with_edge (in_line c.loop-e.from c.way.result) e c.loop-e.met)) last all)

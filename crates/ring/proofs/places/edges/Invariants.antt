@@ -1,24 +1,9 @@
 -- `ring::places::edges` takes every edge in turn. The invariant: the span is that of the edges before e, and `from` leads to vertex e. Assumes nothing.
-use Prim.Native.Nat.{ℕ, ◌-◌, ◌<◌}
-use mathlib.Core.List.{List}
-use lib.IntN.{ℤ}
-use Rattle.exact.specs.declared.Arrow.{Arrow}
-use Rattle.ring.specs.declared.Point.{Point}
-use Rattle.ring.specs.declared.places.Span.{Span}
-use Rattle.ring.specs.Grid.{vertices}
 use Rattle.ring.specs.Rings.{at}
 use Rattle.ring.specs.Locate.{on_edge}
 use Rattle.ring.specs.Walk.{head_of, Way}
 use Rattle.ring.proofs.Spans.{Spans}
 use Rattle.ring.proofs.places.edges.Given as goal
 
-pub record Walked (xs : List ℤ) (n : ℕ) (R : Point) (s : Span) (from : Arrow) (e : ℕ) : Type 0 where
-  pub within : e < n
-  pub met : Spans (on_edge (vertices xs) R) n e s
-  pub way : Way R (at (vertices xs) e) from
-
 abbrev pub invariant-loop-e : goal.invariant-loop-e
-invariant-loop-e l = Walked l.ring l.n (head_of l.r) l.met l.from l.e
-
-abbrev pub decreases-loop-e : goal.decreases-loop-e
-decreases-loop-e l = l.n - l.e
+invariant-loop-e g l = let P = g.R.Ring.points l.ring in Spans (on_edge P (head_of l.r)) l.e l.met × Way (head_of l.r) (at P l.e) l.from

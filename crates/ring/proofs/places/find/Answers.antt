@@ -1,40 +1,6 @@
 -- `ring::places::find` looks for edges only where no vertex is r. Assumes nothing.
-use Prim.Native.Nat.{ℕ}
-use mathlib.Core.Path.{◌≡◌, sym, ap, subst, ◌∙◌}
-use mathlib.Core.Bool.{true, false}
-use lib.Dec.{ltb}
-use borrow.Author.Tests.{lt-ltb, le-ltb}
-use Rattle.ring.specs.declared.Point.{Point}
-use Rattle.ring.specs.declared.places.Span.{Span}
-use Rattle.ring.specs.Grid.{vertices}
-use Rattle.ring.specs.Locate.{lowest, highest, at_vertex}
-use Rattle.ring.specs.Walk.{head_of, Ready}
-use Rattle.ring.proofs.Pick.{pick_true, pick-false}
+use Rattle.ring.proofs.Search.{first-passes}
 use Rattle.ring.proofs.places.find.Goals as goal
 
-pub narrow-p-requires : goal.narrow-p-requires
-narrow-p-requires c = c.requires.point
-
-pub lowest_vertex-lowest-requires : goal.lowest_vertex-lowest-requires
-lowest_vertex-lowest-requires c =
-    let ready : Ready c.args.ring.now c.args.n c.narrow-p.result = subst (Ready c.args.ring.now c.args.n) (sym c.narrow-p.ensures) c.requires in
-    ready
-
-pub highest_vertex-requires : goal.highest_vertex-requires
-highest_vertex-requires c =
-    let ready : Ready c.args.ring.now c.args.n c.narrow-p.result = subst (Ready c.args.ring.now c.args.n) (sym c.narrow-p.ensures) c.requires in
-    ready
-
-pub returns-then-lowest-n : goal.returns-then-lowest-n
-returns-then-lowest-n c =
-    let low : c.lowest_vertex-lowest.result ≡ lowest (at_vertex (vertices c.args.ring.now) (head_of c.args.r)) c.args.n 0 = let a = c.args in c.lowest_vertex-lowest.ensures ∙ ap (λ (R : Point). lowest (at_vertex (vertices a.ring.now) R) a.n 0) c.narrow-p.ensures in
-    let a = c.args in
-    let high : c.highest_vertex.result ≡ highest (at_vertex (vertices a.ring.now) (head_of a.r)) a.n = c.highest_vertex.ensures ∙ ap (λ (R : Point). highest (at_vertex (vertices a.ring.now) R) a.n) c.narrow-p.ensures in
-    (λ i. record { vertex = true; at = record { lowest = low i; highest = high i } })
-    ∙ sym (pick_true (ap (λ (v : ℕ). ltb v a.n) (sym low) ∙ lt-ltb _ a.n c.if-lowest-n.true) _ _)
-
-pub returns : goal.returns
-returns c =
-    let low : c.lowest_vertex-lowest.result ≡ lowest (at_vertex (vertices c.args.ring.now) (head_of c.args.r)) c.args.n 0 = let a = c.args in c.lowest_vertex-lowest.ensures ∙ ap (λ (R : Point). lowest (at_vertex (vertices a.ring.now) R) a.n 0) c.narrow-p.ensures in
-    let n = c.args.n in
-    ap (λ (s : Span). record { vertex = false; at = s }) c.edges.ensures ∙ sym (pick-false (ap (λ (v : ℕ). ltb v n) (sym low) ∙ le-ltb _ n c.if-lowest-n.false) _ _)
+pub highest_vertex-requires-clause-met : goal.highest_vertex-requires-clause-met
+highest_vertex-requires-clause-met g c = (first-passes _ _ c.in-Some.lowest c.in-Some.ensures).1

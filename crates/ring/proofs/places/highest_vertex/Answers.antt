@@ -1,35 +1,31 @@
--- `ring::places::highest_vertex` looks at every vertex from the last on. The invariant: the highest is among those left. Assumes nothing.
-use Prim.Native.Nat.{suc, ◌-◌}
-use native.Mathlib.Nat.{le_refl}
+-- `ring::places::highest_vertex` looks at every vertex from the last on. The invariant: none of those from v on is r. Assumes nothing.
+use Prim.Native.Nat.{ℕ, ◌-◌}
+use native.Mathlib.Decide.{ℕ_discrete}
 use native.Mathlib.Omega.{arith}
-use mathlib.Core.Path.{◌≡◌, refl, sym, ap, ◌∙◌}
-use Rattle.ring.specs.Grid.{vertices}
+use mathlib.Core.Path.{◌≡◌, sym, ap, subst, ◌∙◌}
+use mathlib.Core.Bool.{false}
 use Rattle.ring.specs.Segment.{same}
-use Rattle.ring.specs.Locate.{highest, at_vertex}
-use Rattle.ring.proofs.Search.{highest-none, highest-hit, highest-miss}
+use Rattle.ring.specs.Locate.{at_vertex}
+use Rattle.ring.proofs.Same.{equal-same}
+use Rattle.ring.proofs.Search.{highest-last}
 use Rattle.ring.proofs.places.highest_vertex.Goals as goal
 
-pub loop-left-init : goal.loop-left-init
-loop-left-init c = (le_refl _, refl)
+pub returns-then-eq : goal.returns-then-eq
+returns-then-eq g c =
+    let P = g.R.Ring.points c.args.ring.now in
+    let v = c.loop-v.v - 1 in
+    let tested : at_vertex P c.args.r v ≡ c.eq.result = sym (c.eq.ensures ∙ equal-same c.vertex.result c.args.r ∙ ap (same c.args.r) c.vertex.ensures.here) in
+    highest-last _ _ v (omega (arith, c.loop-v-test.true, c.len-v.ensures.all)) (tested ∙ c.if-eq.true) (λ j h l. c.loop-v.invariant j (omega (arith, h)) l)
 
-pub vertex-requires : goal.vertex-requires
-vertex-requires c = omega (arith, c.loop-left-test.true, c.loop-left.invariant.0, c.requires.even)
-
-pub returns-then-same : goal.returns-then-same
-returns-then-same c =
-    let tested : at_vertex (vertices c.args.ring.now) c.args.r (c.loop-left.left - 1) ≡ c.same.result = sym (c.same.ensures ∙ ap (same c.args.r) c.vertex.ensures) in
-    let next : suc (c.loop-left.left - 1) ≡ c.loop-left.left = omega (arith, c.loop-left-test.true) in
-    let p = at_vertex (vertices c.args.ring.now) c.args.r in
-    sym (highest-hit p (c.loop-left.left - 1) (tested ∙ c.if-same.true)) ∙ ap (highest p) next ∙ c.loop-left.invariant.1
-
-pub loop-left-preserved : goal.loop-left-preserved
-loop-left-preserved c =
-    let tested : at_vertex (vertices c.args.ring.now) c.args.r (c.loop-left.left - 1) ≡ c.same.result = sym (c.same.ensures ∙ ap (same c.args.r) c.vertex.ensures) in
-    let next : suc (c.loop-left.left - 1) ≡ c.loop-left.left = omega (arith, c.loop-left-test.true) in
-    let p = at_vertex (vertices c.args.ring.now) c.args.r in
-    (omega (arith, c.loop-left.invariant.0), sym (highest-miss p (c.loop-left.left - 1) (tested ∙ c.if-same.false)) ∙ ap (highest p) next ∙ c.loop-left.invariant.1)
+pub loop-v-preserved : goal.loop-v-preserved
+loop-v-preserved g c j h l =
+    let P = g.R.Ring.points c.args.ring.now in
+    let v = c.loop-v.v - 1 in
+    let tested : at_vertex P c.args.r v ≡ c.eq.result = sym (c.eq.ensures ∙ equal-same c.vertex.result c.args.r ∙ ap (same c.args.r) c.vertex.ensures.here) in
+    elim (ℕ_discrete v j) [
+      | yes s ↦ subst (λ (m : ℕ). at_vertex P c.args.r m ≡ false) s (tested ∙ c.if-eq.false)
+      | no s ↦ c.loop-v.invariant j (omega (arith, h, s)) l
+    ]
 
 pub returns : goal.returns
-returns c =
-    let p = at_vertex (vertices c.args.ring.now) c.args.r in
-    sym (highest-none p) ∙ ap (highest p) (omega (arith, c.loop-left-test.false)) ∙ c.loop-left.invariant.1
+returns g c = highest-last _ _ c.args.lowest c.requires.lowest_in_bounds c.requires.met (λ j h l. c.loop-v.invariant j (omega (arith, h, c.loop-v-test.false)) l)

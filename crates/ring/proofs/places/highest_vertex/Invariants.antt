@@ -1,12 +1,10 @@
--- `ring::places::highest_vertex` looks at every vertex from the last on. The invariant: the highest is among those left. Assumes nothing.
-use Prim.Native.Nat.{◌≤◌}
+-- `ring::places::highest_vertex` looks at every vertex from the last on. The invariant: none of those from v on is r. Assumes nothing.
+use Prim.Native.Nat.{ℕ, ◌≤◌, ◌<◌}
 use mathlib.Core.Path.{◌≡◌}
-use Rattle.ring.specs.Grid.{vertices}
-use Rattle.ring.specs.Locate.{highest, at_vertex}
+use mathlib.Core.Bool.{false}
+use lib.ListN.{length}
+use Rattle.ring.specs.Locate.{at_vertex}
 use Rattle.ring.proofs.places.highest_vertex.Given as goal
 
-abbrev pub invariant-loop-left : goal.invariant-loop-left
-invariant-loop-left l = (l.left ≤ l.n) × (highest (at_vertex (vertices l.ring) l.r) l.left ≡ highest (at_vertex (vertices l.ring) l.r) l.n)
-
-abbrev pub decreases-loop-left : goal.decreases-loop-left
-decreases-loop-left l = l.left
+abbrev pub invariant-loop-v : goal.invariant-loop-v
+invariant-loop-v g l = let P = g.R.Ring.points l.ring in (j : ℕ) → l.v ≤ j → j < length P → at_vertex P l.r j ≡ false

@@ -1,27 +1,21 @@
 -- `ring::places::lowest_vertex` looks at every vertex in turn. The invariant: none of those before v is r. Assumes nothing.
 use native.Mathlib.Omega.{arith}
 use mathlib.Core.Path.{◌≡◌, sym, ap, ◌∙◌}
-use Rattle.ring.specs.Grid.{vertices}
 use Rattle.ring.specs.Segment.{same}
 use Rattle.ring.specs.Locate.{at_vertex}
-use Rattle.ring.proofs.Search.{unmet-none, unmet-more, unmet-hit, unmet-all}
+use Rattle.ring.proofs.Same.{equal-same}
+use Rattle.ring.proofs.Search.{unmet-more, first_hit, first-none}
 use Rattle.ring.proofs.places.lowest_vertex.Goals as goal
 
-pub loop-v-init : goal.loop-v-init
-loop-v-init c = unmet-none _
-
-pub vertex-requires : goal.vertex-requires
-vertex-requires c = omega (arith, c.loop-v-test.true, c.requires.even)
-
-pub returns-then-same : goal.returns-then-same
-returns-then-same c =
-    let tested : at_vertex (vertices c.args.ring.now) c.args.r c.loop-v.v ≡ c.same.result = sym (c.same.ensures ∙ ap (same c.args.r) c.vertex.ensures) in
-    unmet-hit _ c.args.n c.loop-v.v c.loop-v-test.true (tested ∙ c.if-same.true) c.loop-v.invariant
+pub returns-then-eq : goal.returns-then-eq
+returns-then-eq g c =
+    let tested : at_vertex (g.R.Ring.points c.args.ring.now) c.args.r c.loop-v.v ≡ c.eq.result = sym (c.eq.ensures ∙ equal-same c.vertex.result c.args.r ∙ ap (same c.args.r) c.vertex.ensures.here) in
+    first_hit _ _ c.loop-v.v (omega (arith, c.loop-v-test.true, c.len-v-end.ensures.all)) (tested ∙ c.if-eq.true) c.loop-v.invariant
 
 pub loop-v-preserved : goal.loop-v-preserved
-loop-v-preserved c =
-    let tested : at_vertex (vertices c.args.ring.now) c.args.r c.loop-v.v ≡ c.same.result = sym (c.same.ensures ∙ ap (same c.args.r) c.vertex.ensures) in
-    unmet-more _ c.loop-v.v (tested ∙ c.if-same.false) c.loop-v.invariant
+loop-v-preserved g c =
+    let tested : at_vertex (g.R.Ring.points c.args.ring.now) c.args.r c.loop-v.v ≡ c.eq.result = sym (c.eq.ensures ∙ equal-same c.vertex.result c.args.r ∙ ap (same c.args.r) c.vertex.ensures.here) in
+    unmet-more _ c.loop-v.v (tested ∙ c.if-eq.false) c.loop-v.invariant
 
 pub returns : goal.returns
-returns c = unmet-all _ c.args.n c.loop-v.v c.loop-v-test.false c.loop-v.invariant
+returns g c = first-none _ _ (λ j h. c.loop-v.invariant j (omega (arith, c.loop-v-test.false, c.len-v-end.ensures.all)))

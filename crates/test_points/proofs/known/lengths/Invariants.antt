@@ -1,9 +1,0 @@
--- `known::lengths` meets its contract. The invariant says nothing. The measure is how many are left. Assumes nothing.
-use Prim.Native.Nat.{◌-◌, ◌≤◌}
-use Rattle.test_points.proofs.known.lengths.Given as goal
-
-abbrev pub invariant-loop-k : goal.invariant-loop-k
-invariant-loop-k g l = 0 ≤ l.k
-
-abbrev pub decreases-loop-k : goal.decreases-loop-k
-decreases-loop-k g l = 8 - l.k
