@@ -5,10 +5,10 @@ use native.Mathlib.Omega.{arith}
 use native.Mathlib.Nat.{div-mul-le_self}
 use mathlib.Core.Path.{◌≡◌, refl, sym, ap, subst, ◌∙◌}
 use mathlib.Core.Bool.{Bool, true, false}
-use mathlib.Core.List.{List, ◌++◌, append_assoc}
+use mathlib.Core.List.{List, [], ◌∷◌, ◌++◌, append_assoc}
 use lib.IntN.{ℤ}
 use lib.Seq.{take-append_seam, drop-append_seam, drop-drop}
-use lib.ListN.{length, get_or, take, drop, length-append}
+use lib.ListN.{length, get_or, set, take, drop, length-append}
 use lib.Dec.{ltb}
 use borrow.Author.Tests.{ltb-true, ltb-false}
 use borrow.Rule.Slice.PartMut.{mid_of, put_mid}
@@ -31,6 +31,32 @@ use Rattle.tally.specs.Tally.{tallied, answered}
 use Rattle.codes.specs.Codes.{class_code, answer_code}
 use Rattle.codes.specs.Counts.{tally_of, place_of, place_told, place_in, Raises}
 use Rattle.codes.specs.Batches.{told, point_at, answers_to, tally_to, counted_to, answer_by, answer_in, room_tests, left_by, batch, CountsTold, AllCounted}
+
+-- ---- nine numbers written one by one
+
+pub nine : (l : List ℕ) (k a b c d e f g h : ℕ) → 9 ≤ length l → set (set (set (set (set (set (set (set (set l 0 k) 1 a) 2 b) 3 c) 4 d) 5 e) 6 f) 7 g) 8 h ≡ k ∷ a ∷ b ∷ c ∷ d ∷ e ∷ f ∷ g ∷ h ∷ drop 9 l
+nine [] k a b c d e f g h l = absurd (let z : ⊥ = omega arith in z)
+nine (x0 ∷ []) k a b c d e f g h l = absurd (let z : ⊥ = omega arith in z)
+nine (x0 ∷ x1 ∷ []) k a b c d e f g h l = absurd (let z : ⊥ = omega arith in z)
+nine (x0 ∷ x1 ∷ x2 ∷ []) k a b c d e f g h l = absurd (let z : ⊥ = omega arith in z)
+nine (x0 ∷ x1 ∷ x2 ∷ x3 ∷ []) k a b c d e f g h l = absurd (let z : ⊥ = omega arith in z)
+nine (x0 ∷ x1 ∷ x2 ∷ x3 ∷ x4 ∷ []) k a b c d e f g h l = absurd (let z : ⊥ = omega arith in z)
+nine (x0 ∷ x1 ∷ x2 ∷ x3 ∷ x4 ∷ x5 ∷ []) k a b c d e f g h l = absurd (let z : ⊥ = omega arith in z)
+nine (x0 ∷ x1 ∷ x2 ∷ x3 ∷ x4 ∷ x5 ∷ x6 ∷ []) k a b c d e f g h l = absurd (let z : ⊥ = omega arith in z)
+nine (x0 ∷ x1 ∷ x2 ∷ x3 ∷ x4 ∷ x5 ∷ x6 ∷ x7 ∷ []) k a b c d e f g h l = absurd (let z : ⊥ = omega arith in z)
+nine (x0 ∷ x1 ∷ x2 ∷ x3 ∷ x4 ∷ x5 ∷ x6 ∷ x7 ∷ x8 ∷ xs) k a b c d e f g h l = refl
+
+pub eight : (vs rest : List ℕ) → length vs ≡ 8 → get_or vs 0 0 ∷ get_or vs 1 0 ∷ get_or vs 2 0 ∷ get_or vs 3 0 ∷ get_or vs 4 0 ∷ get_or vs 5 0 ∷ get_or vs 6 0 ∷ get_or vs 7 0 ∷ rest ≡ vs ++ rest
+eight [] rest e = absurd (let z : ⊥ = omega arith in z)
+eight (x0 ∷ []) rest e = absurd (let z : ⊥ = omega arith in z)
+eight (x0 ∷ x1 ∷ []) rest e = absurd (let z : ⊥ = omega arith in z)
+eight (x0 ∷ x1 ∷ x2 ∷ []) rest e = absurd (let z : ⊥ = omega arith in z)
+eight (x0 ∷ x1 ∷ x2 ∷ x3 ∷ []) rest e = absurd (let z : ⊥ = omega arith in z)
+eight (x0 ∷ x1 ∷ x2 ∷ x3 ∷ x4 ∷ []) rest e = absurd (let z : ⊥ = omega arith in z)
+eight (x0 ∷ x1 ∷ x2 ∷ x3 ∷ x4 ∷ x5 ∷ []) rest e = absurd (let z : ⊥ = omega arith in z)
+eight (x0 ∷ x1 ∷ x2 ∷ x3 ∷ x4 ∷ x5 ∷ x6 ∷ []) rest e = absurd (let z : ⊥ = omega arith in z)
+eight (x0 ∷ x1 ∷ x2 ∷ x3 ∷ x4 ∷ x5 ∷ x6 ∷ x7 ∷ []) rest e = refl
+eight (x0 ∷ x1 ∷ x2 ∷ x3 ∷ x4 ∷ x5 ∷ x6 ∷ x7 ∷ x8 ∷ xs) rest e = absurd (let z : ⊥ = omega arith in z)
 
 -- ---- answers one after the other
 

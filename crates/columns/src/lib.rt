@@ -12,6 +12,7 @@ ghost use Rattle.ring.specs.Locate.{located_on, lying_of};
 ghost use Rattle.ring.specs.Walk.{OnGrid};
 
 pub use passing::missing;
+pub use ring::vertex_of as vertex;
 use ring::{Columns, Place, Point};
 
 // A point's row, or its column.

@@ -13,7 +13,7 @@ ghost use Rattle.districts.specs.WellFormed.{shaped as shaped_lists, counted as 
 ghost use Rattle.districts.specs.Lent.{formed};
 ghost use Rattle.districts.specs.Held.{lists_of};
 
-pub use lists::{Lists, ListsToChange, ListsToFound};
+pub use lists::{Lists, ListsToChange, ListsToFound, begins};
 use packing::Packing;
 use ring::Touch;
 pub use runs::{FIRST_PLACES, Runs, SIZES};

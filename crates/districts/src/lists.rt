@@ -1,6 +1,9 @@
 // The five lists of a register as they are lent to a call: of any length and content.
-ghost use Rattle.std.specs.Prelude.{◌≡◌, true};
-ghost use Rattle.districts.specs.Lent.{formed};
+ghost use Rattle.std.specs.Prelude.{◌≡◌, true, List, length};
+ghost use Rattle.ring.specs.declared.Point.{Point};
+ghost use Rattle.refusals.specs.Verdicts.{verdict, verdict_of};
+ghost use Rattle.districts.specs.Lists.{meaning};
+ghost use Rattle.districts.specs.Lent.{formed, beginning};
 ghost use Rattle.districts.specs.Held.{lists_of, founding_of, changing_of, StoreOf, Known, Begun};
 
 use crate::{Runs, Store, well_formed};
@@ -36,6 +39,21 @@ pub struct ListsToChange<'a> {
     pub runs: &'a mut [u32],
 }
 
+// Refusal 1 where the lists are known not to be well-formed, then 2 where there is no outline. It reads the runs alone.
+pub fn begins(good: bool, runs: &[u32]) -> Result<(), Refusal>
+    requires { good ≡ true → length runs.now ≡ 129 }
+    ensures { (outline store : List Point) → verdict_of result ≡ verdict (beginning good (meaning outline store runs.now)) }
+{
+    if !good {
+        return Err(Refusal::NotWellFormed);
+    }
+    let runs = Runs { list: runs };
+    if runs.outline_size() == 0 {
+        return Err(Refusal::NoOutline);
+    }
+    Ok(())
+}
+
 impl<'a> Lists<'a> {
     // The store and the runs of lists that are known to be well-formed.
     pub fn store(&self) -> Store<'a>
@@ -65,11 +83,8 @@ impl<'a> Lists<'a> {
         requires { good ≡ formed (lists_of self.now) }
         ensures { Begun (lists_of self.now) result }
     {
-        let store = self.known(good)?;
-        if store.runs.outline_size() == 0 {
-            return Err(Refusal::NoOutline);
-        }
-        Ok(store)
+        begins(good, self.runs)?;
+        Ok(self.store())
     }
 
     // The same, of any lists.

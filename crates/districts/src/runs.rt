@@ -40,11 +40,7 @@ impl Runs<'_> {
     pub fn total(&self) -> usize
         ensures { result ≡ total_of self.now.list.now }
     {
-        let mut sum = 0;
-        for d in 0..crate::NUMBERS {
-            sum += self.size(d);
-        }
-        sum
+        total(self.list)
     }
 
     // It asks all numbers with no branch on what it reads: so the compiler takes some at a time.
@@ -57,6 +53,19 @@ impl Runs<'_> {
         }
         good
     }
+}
+
+// The sum of all sizes. It is handed the list: a `Runs` that is lent is first written to memory, for which a small register waits.
+fn total(list: &[u32]) -> usize
+    requires { length list.now ≡ 129 }
+    ensures { result ≡ total_of list.now }
+{
+    let runs = Runs { list };
+    let mut sum = 0;
+    for d in 0..crate::NUMBERS {
+        sum += runs.size(d);
+    }
+    sum
 }
 
 // Whether n vertices are no ring at all or one of the allowed size.

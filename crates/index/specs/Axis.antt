@@ -1,6 +1,6 @@
 -- An index of the districts along one axis, x or y: the bounds of each district, and the axis cut into 64 bands of equal width, a power of two, each with a mask of the
 -- districts that touch it. What it is for: a number outside a district's bounds, or in a band whose mask has not the district, is beside the district. Assumes nothing.
-use Rattle.std.specs.Prelude.{ℕ, ◌+◌, ◌-◌, ◌/◌, ◌%◌, ◌^◌, ◌≤◌, ◌<◌, ◌≡◌, Bool, true, false, ◌&&◌, ◌||◌, List, eqb, ℤ, pos, nat_abs, ◌-ℤ◌, length, get_or, refl}
+use Rattle.std.specs.Prelude.{ℕ, ◌+◌, ◌-◌, ◌/◌, ◌%◌, ◌^◌, ◌≤◌, ◌<◌, ◌≡◌, Bool, true, false, ◌&&◌, ◌||◌, List, eqb, ℤ, pos, nat_abs, ◌-ℤ◌, length, get_or}
 use Rattle.std.specs.Int.Signed.{lt_z, le_z}
 use Rattle.ring.specs.Choices.{pick}
 use Rattle.ring.specs.Columns.{Beside}
@@ -25,15 +25,15 @@ From column low = (j : ℕ) → j < length column → le_z low (get_or column j 
 abbrev pub UpTo : List ℤ → ℤ → Type 0
 UpTo column high = (j : ℕ) → j < length column → le_z (get_or column j (pos 0)) high ≡ true
 
--- the bounds of a column
+-- the bounds of a column, the low one not above the high one
 abbrev pub Bounding : List ℤ → Bounds → Type 0
-Bounding column b = From column b.low × UpTo column b.high
+Bounding column b = From column b.low × UpTo column b.high × (le_z b.low b.high ≡ true)
 
 -- ---- bounds: a pair for each number
 
 -- what stands behind the last one
 abbrev pub no_bounds : Bounds
-no_bounds = record { low = pos 0; high = pos 0; order = refl }
+no_bounds = record { low = pos 0; high = pos 0 }
 
 abbrev pub low_of : List Bounds → ℕ → ℤ
 low_of bounds d = (get_or bounds d no_bounds).low
@@ -49,12 +49,14 @@ within bounds d v = le_z (low_of bounds d) v && le_z v (high_of bounds d)
 pub record BoundsOf (column : List ℤ) (runs : List ℕ) (d : ℕ) (b : Bounds) : Type 0 where
   pub low : 0 < size runs d → From (run column runs d) b.low
   pub high : 0 < size runs d → UpTo (run column runs d) b.high
+  pub order : le_z b.low b.high ≡ true
 
 -- the bounds of the numbers below n hold their runs
 pub record Bounded (column : List ℤ) (runs : List ℕ) (n : ℕ) (bounds : List Bounds) : Type 0 where
   pub room : length bounds ≡ 64
   pub low : (d : ℕ) → d < n → 0 < size runs d → From (run column runs d) (low_of bounds d)
   pub high : (d : ℕ) → d < n → 0 < size runs d → UpTo (run column runs d) (high_of bounds d)
+  pub order : (d : ℕ) → d < n → le_z (low_of bounds d) (high_of bounds d) ≡ true
 
 -- ---- bands
 

@@ -1,12 +1,17 @@
 -- An index along both axes, and one that is kept while its register changes. Assumes nothing.
-use Rattle.std.specs.Prelude.{ℕ, List, ℤ, Option, Some, None}
+use Rattle.std.specs.Prelude.{ℕ, ◌<◌, ◌≡◌, List, ℤ, Option, Some, None}
 use Rattle.index.specs.declared.AxisIndex.{AxisIndex}
 use Rattle.index.specs.declared.Index.{Index}
 use Rattle.index.specs.declared.column.Column.{Column}
+use Rattle.districts.specs.Lists.{size}
 use Rattle.index.specs.Axis.{Fits}
 
 abbrev pub FitsColumn : Column → AxisIndex → Type 0
 FitsColumn c i = Fits c.numbers.now c.runs.list.now i.bounds i.masks i.axis
+
+-- no number is used
+abbrev pub NoneUsed : List ℕ → Type 0
+NoneUsed runs = (d : ℕ) → d < 64 → size runs d ≡ 0
 
 -- it fits along x and along y
 pub record Indexed (sx sy : List ℤ) (runs : List ℕ) (i : Index) : Type 0 where

@@ -1,7 +1,7 @@
 // An axis that all bounds lie on, cut into bands of equal width. The width is a power of two, so that a shift tells a number's band.
 ghost use Rattle.std.specs.Prelude.{◌≡◌, true, ◌<◌, ◌/◌, ◌^◌};
 ghost use Rattle.std.specs.Int.Signed.{le_z};
-ghost use Rattle.index.specs.Axis.{far as far_of, band as band_of, Spans};
+ghost use Rattle.index.specs.Axis.{far as far_of, band as band_of, low_of, high_of, Spans};
 
 use crate::Bounds;
 use districts::NUMBERS;
@@ -36,6 +36,7 @@ fn shift(length: usize) -> usize
 }
 
 pub fn spanning(bounds: &[Bounds; NUMBERS]) -> Axis
+    requires { le_z (low_of bounds.now 0) (high_of bounds.now 0) ≡ true }
     ensures { Spans bounds.now result }
 {
     let mut low = bounds[0].low;

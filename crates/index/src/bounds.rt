@@ -1,6 +1,6 @@
 // The bounds of each district along one axis. A number that is not used gets the first number of the column as both.
-ghost use Rattle.std.specs.Prelude.{◌≡◌, true};
-ghost use Rattle.std.specs.Int.Signed.{le_z};
+ghost use Rattle.std.specs.Prelude.{◌<◌, ◌≤◌, length};
+ghost use Rattle.index.specs.Axis.{Bounding, BoundsOf, Bounded};
 
 use crate::Column;
 use districts::NUMBERS;
@@ -9,13 +9,9 @@ use districts::NUMBERS;
 pub struct Bounds {
     pub low: i32,
     pub high: i32,
-    ghost order: { le_z low high ≡ true },
 }
 
 impl Bounds {
-    ghost use Rattle.std.specs.Prelude.{◌<◌, ◌≤◌, length};
-    ghost use Rattle.index.specs.Axis.{Bounding, BoundsOf, Bounded};
-
     // Of the numbers of a column.
     fn of(column: &[i32]) -> Bounds
         requires { (0 < length column.now) × (length column.now ≤ 2048) }
@@ -47,13 +43,12 @@ impl Bounds {
         Bounds::of(&column.numbers[from..to])
     }
 
-    pub fn all(column: &Column) -> [Bounds; NUMBERS]
-        ensures { Bounded column.now.numbers.now column.now.runs.list.now 64 result }
+    // Of every number.
+    pub fn all(bounds: &mut [Bounds; NUMBERS], column: &Column)
+        ensures { Bounded column.now.numbers.now column.now.runs.list.now 64 bounds.new }
     {
-        let mut bounds = [Bounds { low: 0, high: 0 }; NUMBERS];
         for d in 0..NUMBERS {
             bounds[d] = Bounds::of_number(column, d);
         }
-        bounds
     }
 }

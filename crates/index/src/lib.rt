@@ -9,13 +9,13 @@ mod bounds;
 mod column;
 mod masks;
 
-ghost use Rattle.std.specs.Prelude.{◌≡◌, ◌<◌};
-ghost use Rattle.index.specs.Axis.{OnAxis, within, listed};
-ghost use Rattle.index.specs.Both.{Indexed, FitsColumn};
+ghost use Rattle.std.specs.Prelude.{◌≡◌, ◌<◌, List, ℕ, ℤ};
+ghost use Rattle.index.specs.Axis.{OnAxis, Fits, within, listed};
+ghost use Rattle.index.specs.Both.{Indexed, FitsColumn, NoneUsed};
 
 pub use bands::Axis;
 pub use bounds::Bounds;
-use column::Column;
+pub use column::Column;
 use districts::{NUMBERS, Store};
 
 // The index along one axis.
@@ -33,17 +33,28 @@ pub struct Index {
 }
 
 impl AxisIndex {
-    fn of(column: &Column) -> AxisIndex
-        ensures { FitsColumn column.now result }
+    // Of no districts.
+    pub fn empty() -> AxisIndex
+        ensures { (column : List ℤ) (runs : List ℕ) → NoneUsed runs → Fits column runs result.bounds result.masks result.axis }
     {
-        let bounds = Bounds::all(column);
-        let axis = bands::spanning(&bounds);
-        let masks = masks::all(&bounds, column, axis);
         AxisIndex {
-            bounds,
-            axis,
-            masks,
+            bounds: [Bounds { low: 0, high: 0 }; NUMBERS],
+            axis: Axis {
+                low: 0,
+                high: 0,
+                shift: 0,
+            },
+            masks: [0; bands::BANDS],
         }
+    }
+
+    // Makes it that of the districts' x, or of their y, where it stands.
+    pub fn fill(&mut self, column: &Column)
+        ensures { FitsColumn column.now self.new }
+    {
+        Bounds::all(&mut self.bounds, column);
+        self.axis = bands::spanning(&self.bounds);
+        masks::all(&mut self.masks, &self.bounds, column, self.axis);
     }
 
     // Whether v is within d's bounds.
@@ -65,8 +76,19 @@ impl AxisIndex {
 }
 
 impl Index {
-    pub fn of(store: &Store) -> Index
-        ensures { Indexed store.now.sx.now store.now.sy.now store.now.runs.list.now result }
+    // Of a register without districts.
+    pub fn empty() -> Index
+        ensures { (sx sy : List ℤ) (runs : List ℕ) → NoneUsed runs → Indexed sx sy runs result }
+    {
+        Index {
+            x: AxisIndex::empty(),
+            y: AxisIndex::empty(),
+        }
+    }
+
+    // Makes it that of a register, where it stands: what `of` answers is copied to its place.
+    pub fn fill(&mut self, store: &Store)
+        ensures { Indexed store.now.sx.now store.now.sy.now store.now.runs.list.now self.new }
     {
         let x = Column {
             numbers: store.sx,
@@ -76,9 +98,15 @@ impl Index {
             numbers: store.sy,
             runs: store.runs,
         };
-        Index {
-            x: AxisIndex::of(&x),
-            y: AxisIndex::of(&y),
-        }
+        self.x.fill(&x);
+        self.y.fill(&y);
+    }
+
+    pub fn of(store: &Store) -> Index
+        ensures { Indexed store.now.sx.now store.now.sy.now store.now.runs.list.now result }
+    {
+        let mut index = Index::empty();
+        index.fill(store);
+        index
     }
 }

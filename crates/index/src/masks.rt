@@ -1,6 +1,7 @@
 // A mask for each band: bit d is set where number d touches it.
-ghost use Rattle.std.specs.Prelude.{◌≡◌, ◌+◌, ◌<◌, ◌≤◌};
-ghost use Rattle.index.specs.Axis.{OnAxis, Spans, Widened, Marked, listed as listed_by};
+ghost use Rattle.std.specs.Prelude.{◌≡◌, true, ℕ, ◌+◌, ◌<◌, ◌≤◌};
+ghost use Rattle.std.specs.Int.Signed.{le_z};
+ghost use Rattle.index.specs.Axis.{low_of, high_of, OnAxis, Spans, Widened, Marked, listed as listed_by};
 
 use crate::bands::{Axis, BANDS, band};
 use crate::{Bounds, Column};
@@ -25,6 +26,7 @@ fn mark_number(
     d: usize,
 )
     requires d_bound { d < 64 }
+    requires d_value { le_z (low_of bounds.now d) (high_of bounds.now d) ≡ true }
     requires spans { Spans bounds.now axis }
     requires marked { Marked bounds.now column.now.runs.list.now axis d masks.old }
     ensures { Marked bounds.now column.now.runs.list.now axis (d + 1) masks.new }
@@ -37,15 +39,15 @@ fn mark_number(
     }
 }
 
-pub fn all(bounds: &[Bounds; NUMBERS], column: &Column, axis: Axis) -> [u64; BANDS]
-    requires { Spans bounds.now axis }
-    ensures { Marked bounds.now column.now.runs.list.now axis 64 result }
+pub fn all(masks: &mut [u64; BANDS], bounds: &[Bounds; NUMBERS], column: &Column, axis: Axis)
+    requires spans { Spans bounds.now axis }
+    requires by_index { (d : ℕ) → d < 64 → le_z (low_of bounds.now d) (high_of bounds.now d) ≡ true }
+    ensures { Marked bounds.now column.now.runs.list.now axis 64 masks.new }
 {
-    let mut masks = [0; BANDS];
+    *masks = [0; BANDS];
     for d in 0..NUMBERS {
-        mark_number(&mut masks, bounds, column, axis, d);
+        mark_number(masks, bounds, column, axis, d);
     }
-    masks
 }
 
 // The mask of the band that v is in; none where v is not on the axis.

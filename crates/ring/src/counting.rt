@@ -29,7 +29,7 @@ pub struct Count {
     pub clear: usize,
 }
 
-fn marked(way: exact::Arrow) -> End
+pub fn marked(way: exact::Arrow) -> End
     ensures { (result.way ≡ way) × Marked result }
 {
     End {

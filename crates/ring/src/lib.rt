@@ -14,11 +14,11 @@ ghost use Rattle.std.specs.Prelude.{◌≡◌, ◌/◌};
 ghost use Rattle.ring.specs.Grid.{no_ring};
 ghost use Rattle.ring.specs.Locate.{located, place_of};
 
-pub use counting::{Count, blocks, each, seen};
-pub use grid::{beyond, some_beyond, vertex, wide};
-pub use places::find;
+pub use counting::{Count, End, blocks, each, marked, seen};
+pub use grid::{beyond, narrow, some_beyond, vertex, wide};
+pub use places::{Span, find};
 use refusals::Refusal;
-pub use rings::{Columns, Pairs, Ring, beside};
+pub use rings::{Columns, Pairs, Ring, beside, vertex_of};
 pub use walk::{found, off};
 
 pub const FEWEST_VERTICES: usize = 3;

@@ -83,10 +83,7 @@ impl Ring for Columns<'_> {
     }
 
     fn vertex(&self, i: usize) -> Point {
-        Point {
-            x: self.xs[i],
-            y: self.ys[i],
-        }
+        vertex_of(self.xs, self.ys, i)
     }
 
     // The row is asked first: most blocks that are missed are missed by it.
@@ -96,6 +93,14 @@ impl Ring for Columns<'_> {
         }
         beside(self.xs, r.x, i, k)
     }
+}
+
+// Vertex i of two columns, of any length and content.
+pub fn vertex_of(xs: &[i32], ys: &[i32], i: usize) -> Point
+    requires { (i < length xs.now) × (length xs.now ≡ length ys.now) }
+    ensures { result ≡ at (points xs.now ys.now) i }
+{
+    Point { x: xs[i], y: ys[i] }
 }
 
 // Whether the k + 1 numbers of a column from place i on lie all above or all below v. It reads them all, with no branch on what it reads.

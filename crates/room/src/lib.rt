@@ -10,7 +10,7 @@ mod writing;
 
 pub use piece::{Back, Piece, Run, around};
 pub use store_mut::StoreMut;
-pub use storing::ring_of;
+pub use storing::{copy_ring, ring_of};
 pub use writing::write;
 
 // How many numbers the largest ring has: room for the copy of a ring, x, y, x, y, ..

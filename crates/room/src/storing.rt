@@ -11,7 +11,7 @@ ghost use Rattle.room.specs.Room.{store_of, SameStore};
 
 use crate::writing::write;
 use crate::{Piece, RING_NUMBERS, StoreMut};
-use districts::{FIRST_PLACES, NUMBERS, SIZES};
+use districts::{FIRST_PLACES, NUMBERS, Runs, SIZES};
 
 fn lowered(at: usize, end: usize, n: usize) -> usize
     requires { n ≤ end }
@@ -90,15 +90,27 @@ fn interleave(to: &mut [i32], xs: &[i32], ys: &[i32])
     }
 }
 
-// The ring of number d as x, y, x, y, .., copied to a lent list.
+// Writes the ring of number d as x, y, x, y, .. to the first places of a list, and answers how many numbers that are.
+pub fn copy_ring(to: &mut [i32], sx: &[i32], sy: &[i32], runs: &Runs, d: usize) -> usize
+    requires to_len { (length to.old ≡ 4096) × (length sx.now ≡ 2048) × (length sy.now ≡ 2048) }
+    requires d_bound { d < 64 }
+    requires inside { first_place runs.now.list.now d + size_of runs.now.list.now d ≤ 2048 }
+    ensures many { result ≡ size_of runs.now.list.now d + size_of runs.now.list.now d }
+    ensures copied { to.new ≡ written (numbers_of (part (points sx.now sy.now) (first_place runs.now.list.now d) (size_of runs.now.list.now d))) to.old }
+{
+    let n = runs.size(d);
+    let from = runs.first_place(d);
+    let end = from + n;
+    interleave(to, &sx[from..end], &sy[from..end]);
+    2 * n
+}
+
+// The same of a store, as the part of the list that was written.
 pub fn ring_of<'a>(store: &StoreMut, d: usize, to: &'a mut [i32; RING_NUMBERS]) -> &'a [i32]
     requires d_bound { d < 64 }
     requires inside { first_place store.now.runs.now d + size_of store.now.runs.now d ≤ 2048 }
     ensures { result.now ≡ numbers_of (part (store_of store.now) (first_place store.now.runs.now d) (size_of store.now.runs.now d)) }
 {
-    let n = store.runs().size(d);
-    let from = store.runs().first_place(d);
-    let end = from + n;
-    interleave(to, &store.sx[from..end], &store.sy[from..end]);
-    &to[0..2 * n]
+    let many = copy_ring(to, store.sx, store.sy, &store.runs(), d);
+    &to[0..many]
 }

@@ -1,4 +1,4 @@
-// A register twice: the five lists that the library is lent, and the other's rows.
+// A register twice: the five lists that the library is lent, and the other's rows. The lists are open: of any content they are asked as they stand.
 ghost use Rattle.std.specs.Prelude.{◌≡◌, length};
 
 use crate::answer::{Answer, Both, Told};
@@ -12,11 +12,11 @@ use test_rows::{Rows, Sent};
 
 #[derive(Clone, Copy)]
 pub struct Registers {
-    ox: [i32; COLUMN_LENGTH],
-    oy: [i32; COLUMN_LENGTH],
-    sx: [i32; COLUMN_LENGTH],
-    sy: [i32; COLUMN_LENGTH],
-    runs: [u32; RUNS_LENGTH],
+    pub ox: [i32; COLUMN_LENGTH],
+    pub oy: [i32; COLUMN_LENGTH],
+    pub sx: [i32; COLUMN_LENGTH],
+    pub sy: [i32; COLUMN_LENGTH],
+    pub runs: [u32; RUNS_LENGTH],
     pub rows: Rows,
 }
 

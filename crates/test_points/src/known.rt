@@ -1,6 +1,5 @@
 // The known points of the rules that concern locating, each printed as the picture, the point and the library's answer.
 use crate::said::Said;
-use std::io;
 use std::io::Print;
 use test_lives::Score;
 
@@ -84,32 +83,29 @@ const PICTURES: [Picture; 13] = [
 ];
 
 impl Picture {
-    fn ask(&self, rt: &impl Print, all: &mut Score) -> io::Result<()> {
+    fn ask(&self, rt: &impl Print, all: &mut Score) {
         for (x, y) in self.points {
             let both = test_lives::located(self.corners, *x, *y);
-            println!(rt; "{:<24} ({x},{y}): {}", self.name, Said(both))?;
+            let _ = println!(rt; "{:<24} ({x},{y}): {}", self.name, Said(both));
             all.add(both);
         }
-        Ok(())
     }
 }
 
-pub fn points(rt: &impl Print, all: &mut Score) -> io::Result<()> {
+pub fn points(rt: &impl Print, all: &mut Score) {
     for picture in &PICTURES {
-        picture.ask(rt, all)?;
+        picture.ask(rt, all);
     }
-    Ok(())
 }
 
 // The longest ring, which is one place over and over, at that place and beside it; and one vertex more.
-pub fn longest(rt: &impl Print, all: &mut Score) -> io::Result<()> {
+pub fn longest(rt: &impl Print, all: &mut Score) {
     let list = [0i32; 4098];
     for (n, x) in [(2048, 0), (2048, 2), (2049, 2)] {
         let both = test_lives::located(&list[..2 * n], x, x);
-        println!(rt; "{n} vertices            ({x},{x}): {}", Said(both))?;
+        let _ = println!(rt; "{n} vertices            ({x},{x}): {}", Said(both));
         all.add(both);
     }
-    Ok(())
 }
 
 // At the grid's limit, beyond it by a millimetre and by a little less than half of one; and two halves.
@@ -124,11 +120,10 @@ const METRES: [f64; 8] = [
     0.1875,
 ];
 
-pub fn lengths(rt: &impl Print, all: &mut Score) -> io::Result<()> {
+pub fn lengths(rt: &impl Print, all: &mut Score) {
     for (k, metres) in METRES.iter().enumerate() {
         let both = test_lives::converted(*metres);
-        println!(rt; "metres, value {k}: {}", Said(both))?;
+        let _ = println!(rt; "metres, value {k}: {}", Said(both));
         all.add(both);
     }
-    Ok(())
 }

@@ -10,7 +10,6 @@ mod edits;
 mod known;
 mod said;
 
-use std::io;
 use std::io::Print;
 use test_cases::{Chance, Kind, ROOM};
 use test_lives::{Life, Score};
@@ -137,33 +136,28 @@ const LIVES: [Lives; SORTS] = [
     },
 ];
 
-// Whether it could be written is not asked.
+// What can't be written is left out, and the rest follows.
 fn main(rt: HostRuntime) {
-    let _ = run(&rt);
-}
-
-fn run(rt: &impl Print) -> io::Result<()> {
     let mut chance = Chance { seed: SEED };
     let mut all = Score::new();
-    known::points(rt, &mut all)?;
-    known::longest(rt, &mut all)?;
-    known::lengths(rt, &mut all)?;
-    made_rings(rt, &mut chance, &mut all)?;
-    edits::all(rt, &mut all)?;
-    made_lives(rt, &mut chance, &mut all)?;
-    println!(rt;
+    known::points(&rt, &mut all);
+    known::longest(&rt, &mut all);
+    known::lengths(&rt, &mut all);
+    made_rings(&rt, &mut chance, &mut all);
+    edits::all(&rt, &mut all);
+    made_lives(&rt, &mut chance, &mut all);
+    let _ = println!(rt;
         "asked {} differ {} digest {}",
         all.asked, all.differ, all.digest
-    )
+    );
 }
 
-fn made_rings(rt: &impl Print, chance: &mut Chance, all: &mut Score) -> io::Result<()> {
+fn made_rings(rt: &impl Print, chance: &mut Chance, all: &mut Score) {
     for rings in &RINGS {
         let score = rings.located(chance);
-        said::score(rt, rings.name, &score)?;
+        said::score(rt, rings.name, &score);
         all.plus(&score);
     }
-    Ok(())
 }
 
 impl Rings {
@@ -178,11 +172,10 @@ impl Rings {
     }
 }
 
-fn made_lives(rt: &impl Print, chance: &mut Chance, all: &mut Score) -> io::Result<()> {
+fn made_lives(rt: &impl Print, chance: &mut Chance, all: &mut Score) {
     for lives in &LIVES {
         let score = test_lives::all(&lives.life, lives.times, chance);
-        said::score(rt, lives.name, &score)?;
+        said::score(rt, lives.name, &score);
         all.plus(&score);
     }
-    Ok(())
 }

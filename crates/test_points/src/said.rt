@@ -1,6 +1,6 @@
-// How answers and scores are printed.
+// How answers and scores are printed. Whether they could be written is not asked.
+use std::fmt;
 use std::io::Print;
-use std::{fmt, io};
 use test_lives::{Answer, Both, KINDS, Score, Told};
 use test_rows::Belongs;
 use test_second::{Met, Where};
@@ -89,27 +89,25 @@ const NAMES: [&str; KINDS] = [
     "placed",
 ];
 
-fn kinds(rt: &impl Print, counts: &[usize; KINDS]) -> io::Result<()> {
+fn kinds(rt: &impl Print, counts: &[usize; KINDS]) {
     for (name, n) in NAMES.iter().zip(counts) {
         if 0 < *n {
-            print!(rt; ", {name} {n}")?;
+            let _ = print!(rt; ", {name} {n}");
         }
     }
-    Ok(())
 }
 
-fn refusals(rt: &impl Print, counts: &[usize]) -> io::Result<()> {
+fn refusals(rt: &impl Print, counts: &[usize]) {
     for (number, n) in counts.iter().enumerate() {
         if 0 < *n {
-            print!(rt; ", refused {number}: {n}")?;
+            let _ = print!(rt; ", refused {number}: {n}");
         }
     }
-    Ok(())
 }
 
-pub fn score(rt: &impl Print, name: &str, s: &Score) -> io::Result<()> {
-    print!(rt; "{name:<30} asked {}", s.asked)?;
-    kinds(rt, &s.kinds)?;
-    refusals(rt, &s.refusals)?;
-    println!(rt; ", differ {}", s.differ)
+pub fn score(rt: &impl Print, name: &str, s: &Score) {
+    let _ = print!(rt; "{name:<30} asked {}", s.asked);
+    kinds(rt, &s.kinds);
+    refusals(rt, &s.refusals);
+    let _ = println!(rt; ", differ {}", s.differ);
 }

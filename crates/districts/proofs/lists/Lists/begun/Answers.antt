@@ -1,22 +1,13 @@
--- `Lists::begun` goes by what is known of the lists, then asks for the outline. Assumes nothing.
-use mathlib.Core.Path.{sym, ap, ◌∙◌}
-use Rattle.std.proofs.lemmas.Result.{err_from_is_err_and}
-use Rattle.districts.specs.Lists.{outline_size}
-use Rattle.districts.proofs.Begun.{not-formed, no-outline-there, outline-there}
+-- `Lists::begun` asks the two tests, then hands out the store. Assumes nothing.
+use mathlib.Core.Path.{sym, ◌∙◌}
+use Rattle.std.specs.Prelude.{Ok}
+use Rattle.districts.specs.Held.{lists_of}
+use Rattle.districts.proofs.Sound.{runs-length}
+use Rattle.districts.proofs.Begun.{begins-so, begun-formed}
 use Rattle.districts.proofs.lists.Lists.begun.Goals as goal
 
-pub returns-in_err-store : goal.returns-in_err-store
-returns-in_err-store c =
-    let p = err_from_is_err_and c.from_residual.result c.from_residual.ensures.1 in
-    let known = c.in_err-store.ensures in
-    rw (p.1, p.2, known.1) (not-formed _ known.0)
+pub begins-requires : goal.begins-requires
+begins-requires c e = runs-length (lists_of c.args.self.now) (sym c.requires ∙ e)
 
-pub returns-then-outline_size-eq0 : goal.returns-then-outline_size-eq0
-returns-then-outline_size-eq0 c =
-    let known = c.in_ok-store.ensures in
-    no-outline-there _ known.0 (ap outline_size (sym known.1.2) ∙ sym c.outline_size.ensures.0 ∙ c.if-outline_size-eq0.true)
-
-pub returns : goal.returns
-returns c =
-    let known = c.in_ok-store.ensures in
-    (outline-there _ known.0 (λ e. c.if-outline_size-eq0.false (c.outline_size.ensures.0 ∙ ap outline_size known.1.2 ∙ e)), known.1)
+pub store-requires : goal.store-requires
+store-requires c = let l = lists_of c.args.self.now in begun-formed l (sym (begins-so l c.args.good (Ok c.in_ok-begins.field-0) c.requires c.in_ok-begins.ensures))

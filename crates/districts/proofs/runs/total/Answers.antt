@@ -1,7 +1,7 @@
--- `Runs::total` adds up the 64 sizes. Assumes nothing.
+-- `runs::total` adds up the 64 sizes. Assumes nothing.
 use borrow.Author.Rules.{rules}
 use Rattle.districts.proofs.Counting.{sum-none, sum_more}
-use Rattle.districts.proofs.runs.Runs.total.Goals as goal
+use Rattle.districts.proofs.runs.total.Goals as goal
 
 pub loop-d-init : goal.loop-d-init
 loop-d-init c = (sum-none _, search rules)
