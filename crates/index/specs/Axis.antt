@@ -41,6 +41,10 @@ low_of bounds d = (get_or bounds d no_bounds).low
 abbrev pub high_of : List Bounds → ℕ → ℤ
 high_of bounds d = (get_or bounds d no_bounds).high
 
+-- the low bounds of the numbers below n are not above their high ones
+abbrev pub InOrder : List Bounds → ℕ → Type 0
+InOrder bounds n = (d : ℕ) → d < n → le_z (low_of bounds d) (high_of bounds d) ≡ true
+
 -- v is within d's bounds
 abbrev pub within : List Bounds → ℕ → ℤ → Bool
 within bounds d v = le_z (low_of bounds d) v && le_z v (high_of bounds d)
@@ -56,7 +60,7 @@ pub record Bounded (column : List ℤ) (runs : List ℕ) (n : ℕ) (bounds : Lis
   pub room : length bounds ≡ 64
   pub low : (d : ℕ) → d < n → 0 < size runs d → From (run column runs d) (low_of bounds d)
   pub high : (d : ℕ) → d < n → 0 < size runs d → UpTo (run column runs d) (high_of bounds d)
-  pub order : (d : ℕ) → d < n → le_z (low_of bounds d) (high_of bounds d) ≡ true
+  pub order : InOrder bounds n
 
 -- ---- bands
 

@@ -10,7 +10,7 @@ mod column;
 mod masks;
 
 ghost use Rattle.std.specs.Prelude.{◌≡◌, ◌<◌, List, ℕ, ℤ};
-ghost use Rattle.index.specs.Axis.{OnAxis, Fits, within, listed};
+ghost use Rattle.index.specs.Axis.{OnAxis, Fits, InOrder, within, listed};
 ghost use Rattle.index.specs.Both.{Indexed, FitsColumn, NoneUsed};
 
 pub use bands::Axis;
@@ -50,7 +50,8 @@ impl AxisIndex {
 
     // Makes it that of the districts' x, or of their y, where it stands.
     pub fn fill(&mut self, column: &Column)
-        ensures { FitsColumn column.now self.new }
+        ensures fits { FitsColumn column.now self.new }
+        ensures order { InOrder self.new.bounds 64 }
     {
         Bounds::all(&mut self.bounds, column);
         self.axis = bands::spanning(&self.bounds);
@@ -88,7 +89,8 @@ impl Index {
 
     // Makes it that of a register, where it stands: what `of` answers is copied to its place.
     pub fn fill(&mut self, store: &Store)
-        ensures { Indexed store.now.sx.now store.now.sy.now store.now.runs.list.now self.new }
+        ensures indexed { Indexed store.now.sx.now store.now.sy.now store.now.runs.list.now self.new }
+        ensures order { InOrder self.new.x.bounds 64 × InOrder self.new.y.bounds 64 }
     {
         let x = Column {
             numbers: store.sx,
@@ -103,7 +105,8 @@ impl Index {
     }
 
     pub fn of(store: &Store) -> Index
-        ensures { Indexed store.now.sx.now store.now.sy.now store.now.runs.list.now result }
+        ensures indexed { Indexed store.now.sx.now store.now.sy.now store.now.runs.list.now result }
+        ensures order { InOrder result.x.bounds 64 × InOrder result.y.bounds 64 }
     {
         let mut index = Index::empty();
         index.fill(store);

@@ -1,7 +1,7 @@
 // A mask for each band: bit d is set where number d touches it.
-ghost use Rattle.std.specs.Prelude.{◌≡◌, true, ℕ, ◌+◌, ◌<◌, ◌≤◌};
+ghost use Rattle.std.specs.Prelude.{◌≡◌, true, ◌+◌, ◌<◌, ◌≤◌};
 ghost use Rattle.std.specs.Int.Signed.{le_z};
-ghost use Rattle.index.specs.Axis.{low_of, high_of, OnAxis, Spans, Widened, Marked, listed as listed_by};
+ghost use Rattle.index.specs.Axis.{low_of, high_of, InOrder, OnAxis, Spans, Widened, Marked, listed as listed_by};
 
 use crate::bands::{Axis, BANDS, band};
 use crate::{Bounds, Column};
@@ -41,7 +41,7 @@ fn mark_number(
 
 pub fn all(masks: &mut [u64; BANDS], bounds: &[Bounds; NUMBERS], column: &Column, axis: Axis)
     requires spans { Spans bounds.now axis }
-    requires by_index { (d : ℕ) → d < 64 → le_z (low_of bounds.now d) (high_of bounds.now d) ≡ true }
+    requires by_index { InOrder bounds.now 64 }
     ensures { Marked bounds.now column.now.runs.list.now axis 64 masks.new }
 {
     *masks = [0; BANDS];

@@ -2,6 +2,6 @@
 use Rattle.index.proofs.Listing.{index-fits}
 use Rattle.index.proofs.AxisIndex.fill.Goals as goal
 
-pub returns : goal.returns
-returns c =
+pub returns-clause-fits : goal.returns-clause-fits
+returns-clause-fits c =
     index-fits _ _ c.args.column.now.held _ c.all.ensures _ c.spanning-self.ensures _ c.all-2.ensures
